@@ -1,0 +1,2 @@
+// Recovery cards: policies, dealings and what goes wrong with them.
+pub mod refusal;
