@@ -1,1 +1,4 @@
+pub mod Cards
+pub mod Policies
 pub mod Refusals
+pub mod Thresholds

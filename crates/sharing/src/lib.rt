@@ -1,2 +1,3 @@
-// Recovery cards: policies, dealings and what goes wrong with them.
+// Recovery cards: who may open a drive, what their cards say, and what goes wrong with either.
+pub mod policy;
 pub mod refusal;
