@@ -1,3 +1,5 @@
 pub mod Firsts
 pub mod Listed
 pub mod Rising
+pub mod Rows
+pub mod Steps

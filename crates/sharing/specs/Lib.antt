@@ -1,4 +1,5 @@
 pub mod Cards
+pub mod Factors
 pub mod Policies
 pub mod Refusals
 pub mod Thresholds

@@ -7,6 +7,7 @@
 --   disordered         some threshold is misplaced
 --   refuses-policy     why thresholds make no policy
 --   refuses-words      why a number of words is not taken
+--   on-coefficients    the conditions on a dealing's coefficients
 --   refuses-loading    why a dealing does not take coefficients
 --   refuses-issue      why a card is not issued
 -- Assumes nothing.
@@ -75,14 +76,14 @@ abbrev pub refuses-words : ℕ → Option ℕ
 refuses-words w = first ((eqb w 0 || ltb 16 w, 5) ∷ [])
 
 module _ (F : Arithmetic) (ts : List ℕ) (w : ℕ) where
-  -- a coefficient list of another length than w × t, or with a number that is no element
-  abbrev pub loading : List ℕ → List (Bool × ℕ)
-  loading x = (not (eqb (length x) (w * top ts)), 6) ∷ (any (λ a. leb (F .size) a) x, 7) ∷ []
+  -- the conditions on coefficients: another number of them than w × t, or one that is no element
+  abbrev pub on-coefficients : List ℕ → List (Bool × ℕ)
+  on-coefficients x = (not (eqb (length x) (w * top ts)), 6) ∷ (any (λ a. leb (F .size) a) x, 7) ∷ []
 
   abbrev pub refuses-loading : List ℕ → Option ℕ
-  refuses-loading x = first (loading x)
+  refuses-loading x = first (on-coefficients x)
 
-  -- the coefficients are tried again, and then the length of the value buffer, the id and the level
+  -- the coefficients are tried again, then the length of the value buffer, the id and the level
   abbrev pub refuses-issue : List ℕ → ℕ → ℕ → ℕ → Option ℕ
   refuses-issue x level id n =
-      first (loading x ++ (not (eqb n w), 8) ∷ (eqb id 0 || leb (F .size) id, 9) ∷ (leb (length ts) level, 10) ∷ [])
+      first (on-coefficients x ++ (not (eqb n w), 8) ∷ (eqb id 0 || leb (F .size) id, 9) ∷ (leb (length ts) level, 10) ∷ [])
