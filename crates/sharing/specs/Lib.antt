@@ -1,4 +1,5 @@
 pub mod Cards
+pub mod Dealings
 pub mod Factors
 pub mod Policies
 pub mod Refusals

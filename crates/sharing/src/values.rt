@@ -68,7 +68,7 @@ fn word<F: Field>(
 }
 
 // Writes the value of every word: those of word j begin at j × top.
-pub fn write_values<F: Field>(
+pub(crate) fn write_values<F: Field>(
     field: &F,
     coefficients: &[u32],
     top: usize,
