@@ -1,5 +1,6 @@
 -- When a call is refused, and by which number.
 --   number             the number that a refusal is known by
+--   sentence           the sentence that tells it to a person
 --   refused            the number of the refusal that a call answered, if it answered one
 --   first              of conditions in their order, the number of the first that holds
 --   any, somewhere     a test that some member of a list meets, or some number below another
@@ -15,6 +16,7 @@ use mathlib.Core.List.{List, [], _∷_, _++_}
 use mathlib.Core.Bool.{Bool, true, false, cond, _||_, _&&_, not}
 use Prim.Native.Nat.{ℕ, zero, suc, _-_, _*_}
 use lib.ListN.{length, getD}
+use lib.Chars.{codes}
 use lib.Dec.{eqb, leb, ltb}
 use Rattle.std.specs.declared.option.Option.{Option}
 use Rattle.std.specs.declared.option.Option.the-variants.{Some, None}
@@ -41,6 +43,24 @@ number refusal.IdAlreadyHeld = 12
 number refusal.PoolFull = 13
 number refusal.IdNotHeld = 14
 number refusal.TrailingByte = 15
+
+-- the sentence that tells a refusal to a person
+abbrev pub sentence : Refusal → List ℕ
+sentence refusal.TrayEndsEarly = codes "the tray ends before the part being read is complete"
+sentence refusal.UnknownField = codes "the tray's field byte is neither 1 nor 2"
+sentence refusal.WrongLevelCount = codes "a policy has 1 to 8 thresholds"
+sentence refusal.WrongThreshold = codes "a threshold is 0, above 32, or not above the one before"
+sentence refusal.WrongWordCount = codes "the word count is 0 or above 16"
+sentence refusal.WrongCoefficientCount = codes "the coefficients are not as many as words times the last threshold"
+sentence refusal.CoefficientOutsideField = codes "a coefficient is not below the field's size"
+sentence refusal.WrongBufferLength = codes "the buffer has not one place for each word"
+sentence refusal.WrongId = codes "the id is 0 or not below the field's size"
+sentence refusal.NoSuchLevel = codes "the policy has no such level"
+sentence refusal.ValueOutsideField = codes "a value on the card is not below the field's size"
+sentence refusal.IdAlreadyHeld = codes "a card with this id is already held"
+sentence refusal.PoolFull = codes "the pool holds 64 cards"
+sentence refusal.IdNotHeld = codes "no card with this id is held"
+sentence refusal.TrailingByte = codes "a byte follows the tray's last card"
 
 abbrev pub refused : {A : Type 0} → Result A Refusal → Option ℕ
 refused (Ok a) = None

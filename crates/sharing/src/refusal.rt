@@ -1,7 +1,9 @@
 // Why a call was turned down. Each call tries the conditions that concern it in the order of their numbers, and answers
 // the first that holds.
 ghost use mathlib.Core.Path.{_≡_};
-ghost use Rattle.sharing.specs.Refusals.{number};
+ghost use Rattle.std.specs.declared.option.Option.the-variants.{Some};
+ghost use Rattle.sharing.specs.Refusals.{number, sentence};
+use std::fmt;
 
 #[derive(Clone, Copy, PartialEq, Eq, Debug)]
 pub enum Refusal {
@@ -28,5 +30,38 @@ impl Refusal {
         ensures { λ r. ⌜ r ≡ number self ⌝ }
     {
         self as u8
+    }
+    // The refusal in words.
+    pub fn sentence(self) -> &'static str
+        ensures { λ r. ⌜ now r ≡ sentence self ⌝ }
+    {
+        match self {
+            Refusal::TrayEndsEarly => "the tray ends before the part being read is complete",
+            Refusal::UnknownField => "the tray's field byte is neither 1 nor 2",
+            Refusal::WrongLevelCount => "a policy has 1 to 8 thresholds",
+            Refusal::WrongThreshold => "a threshold is 0, above 32, or not above the one before",
+            Refusal::WrongWordCount => "the word count is 0 or above 16",
+            Refusal::WrongCoefficientCount => {
+                "the coefficients are not as many as words times the last threshold"
+            }
+            Refusal::CoefficientOutsideField => "a coefficient is not below the field's size",
+            Refusal::WrongBufferLength => "the buffer has not one place for each word",
+            Refusal::WrongId => "the id is 0 or not below the field's size",
+            Refusal::NoSuchLevel => "the policy has no such level",
+            Refusal::ValueOutsideField => "a value on the card is not below the field's size",
+            Refusal::IdAlreadyHeld => "a card with this id is already held",
+            Refusal::PoolFull => "the pool holds 64 cards",
+            Refusal::IdNotHeld => "no card with this id is held",
+            Refusal::TrailingByte => "a byte follows the tray's last card",
+        }
+    }
+}
+
+pub impl fmt::Display for Refusal as RefusalDisplay {
+    ghost shown = { λ r. Some (sentence r) };
+
+    fn fmt<W: fmt::Write>(&self, f: &mut fmt::Formatter<W>) -> fmt::Result {
+        let sentence = self.sentence();
+        write!(f, "{sentence}")
     }
 }
