@@ -1,0 +1,4 @@
+mod Partners
+mod Remainders
+pub mod Inverses
+pub mod Modulo

@@ -1,2 +1,4 @@
 pub mod Arithmetic
 pub mod Sums
+pub mod Partners
+pub mod Modulo

@@ -2,6 +2,8 @@
 ghost use mathlib.Core.Path.{_≡_};
 ghost use Rattle.fields.specs.Arithmetic.{Arithmetic, Laws};
 
+pub mod prime;
+
 // A finite field. Its elements are told by the numbers below its size; every function reads a larger number as its
 // remainder by the size, and every answer is below the size. No call changes the field.
 pub trait Field {
