@@ -2,3 +2,8 @@ mod Partners
 mod Remainders
 pub mod Inverses
 pub mod Modulo
+mod Each
+mod Linear
+mod Powers
+pub mod ByteLaws
+mod Products

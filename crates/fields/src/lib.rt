@@ -2,6 +2,8 @@
 ghost use mathlib.Core.Path.{_≡_};
 ghost use Rattle.fields.specs.Arithmetic.{Arithmetic, Laws};
 
+pub mod byte;
+pub mod examples;
 pub mod prime;
 
 // A finite field. Its elements are told by the numbers below its size; every function reads a larger number as its

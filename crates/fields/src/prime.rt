@@ -86,8 +86,4 @@ pub impl Modulus for WideModulus as WidePrime {
 // The wide field: the numbers below 65,537.
 pub type WideField = PrimeField<WideModulus>;
 
-pub fn wide_field() -> WideField {
-    PrimeField {
-        modulus: WideModulus,
-    }
-}
+pub const WIDE_FIELD: WideField = PrimeField { modulus: WideModulus };

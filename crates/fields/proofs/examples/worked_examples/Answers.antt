@@ -1,0 +1,29 @@
+use mathlib.Core.Path.{_≡_, refl, _∙_}
+use lib.Dec.{lit<}
+use Rattle.fields.specs.Bytes.{if-set, xtime, shifted, product, add, multiply}
+use Rattle.fields.specs.Examples.{Examples}
+use Rattle.fields.proofs.Inverses.{inverse-by}
+use Rattle.fields.proofs.examples.worked_examples.Needs as need
+
+examples : Examples
+unfolding if-set xtime shifted product add multiply
+examples = record {
+  byte-sum = refl;
+  byte-product = refl;
+  byte-multiple = refl;
+  wide-square = refl;
+  wide-half = inverse-by 65537 2 32769 (lit< tt) refl;
+}
+
+pub returns : need.returns
+returns c =
+    record {
+      stated = examples;
+      computed = (
+        c .add .ensures ∙ examples .byte-sum,
+        c .multiply .ensures ∙ examples .byte-product,
+        c .multiply-2 .ensures ∙ examples .byte-multiple,
+        c .multiply-3 .ensures ∙ examples .wide-square,
+        c .inverse .ensures ∙ examples .wide-half,
+      );
+    }

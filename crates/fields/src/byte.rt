@@ -1,0 +1,68 @@
+// The byte field, after FIPS 197: a byte is a polynomial over bits, modulo x^8 + x^4 + x^3 + x + 1.
+ghost use mathlib.Core.Path.{_≡_};
+ghost use Prim.Native.Nat.{_<_};
+ghost use Rattle.fields.specs.Bytes.{bytes, xtime};
+ghost use Rattle.fields.specs.Polynomials.{times, Remainder};
+use crate::Field;
+
+#[derive(Clone, Copy, Drop)]
+pub struct ByteField;
+
+// A byte times x: a shift to the left, less the modulus if that passed the byte.
+fn times_x(a: u32) -> u32
+    requires { ⌜ a < 256 ⌝ }
+    ensures { λ r. ⌜ r ≡ xtime a ⌝ }
+{
+    let doubled = (a << 1) % 256;
+    if a >= 0x80 { doubled ^ 0x1b } else { doubled }
+}
+
+pub impl Field for ByteField as ByteArithmetic {
+    ghost arithmetic = { λ _. bytes };
+
+    fn size(&self) -> u32 {
+        256
+    }
+
+    fn add(&self, a: u32, b: u32) -> u32 {
+        (a % 256) ^ (b % 256)
+    }
+
+    // Every element gives zero with itself.
+    fn negate(&self, a: u32) -> u32 {
+        a % 256
+    }
+
+    fn multiply(&self, a: u32, b: u32) -> u32 {
+        let bits = b % 256;
+        let mut shifted = a % 256;
+        let mut product = 0;
+        for i in 0u32..8 {
+            if (bits >> i) % 2 == 1 {
+                product ^= shifted;
+            }
+            shifted = times_x(shifted);
+        }
+        product
+    }
+
+    // `a` to the power 254: the powers 2^k - 1 up to 127, and the square of that.
+    fn inverse(&self, a: u32) -> Option<u32> {
+        let byte = a % 256;
+        if byte == 0 {
+            return None;
+        }
+        let mut power = byte;
+        for _ in 0u32..6 {
+            power = self.multiply(self.multiply(power, power), byte);
+        }
+        Some(self.multiply(power, power))
+    }
+}
+
+// The product of two bytes in the byte field: the remainder of their product as polynomials over bits.
+pub fn byte_product(a: u8, b: u8) -> u8
+    ensures { λ r. ⌜ Remainder (times 8 a b) r ⌝ }
+{
+    ByteField.multiply(a as u32, b as u32) as u8
+}
