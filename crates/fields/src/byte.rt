@@ -66,3 +66,42 @@ pub fn byte_product(a: u8, b: u8) -> u8
 {
     ByteField.multiply(a as u32, b as u32) as u8
 }
+
+#[cfg(test)]
+mod tests {
+    use super::*;
+    use std::test::*;
+
+    // The examples of FIPS 197.
+    #[test]
+    fn standard_examples() -> Result<(), Fail> {
+        check_eq(ByteField.add(0x57, 0x83), 0xd4)?;
+        check_eq(ByteField.multiply(0x57, 0x83), 0xc1)?;
+        check_eq(ByteField.multiply(0x57, 0x02), 0xae)?;
+        check_eq(ByteField.multiply(0x57, 0x04), 0x47)?;
+        check_eq(ByteField.multiply(0x57, 0x08), 0x8e)?;
+        check_eq(ByteField.multiply(0x57, 0x10), 0x07)?;
+        check_eq(ByteField.multiply(0x57, 0x13), 0xfe)?;
+        check_eq(byte_product(0x57, 0x13), 0xfe)
+    }
+
+    #[test]
+    fn inverses() -> Result<(), Fail> {
+        check_eq(ByteField.inverse(0), None)?;
+        for a in 1u32..256 {
+            let inverse = ByteField.inverse(a).ok_or("no inverse")?;
+            check_eq(ByteField.multiply(a, inverse), 1)?;
+        }
+        Ok(())
+    }
+
+    #[test]
+    fn larger_numbers_are_read_as_remainders() -> Result<(), Fail> {
+        check_eq(ByteField.size(), 256)?;
+        check_eq(ByteField.add(0x157, 0x283), 0xd4)?;
+        check_eq(ByteField.negate(0x157), 0x57)?;
+        check_eq(ByteField.multiply(0x157, 0xffffff83), 0xc1)?;
+        check_eq(ByteField.inverse(256), None)?;
+        check_eq(ByteField.inverse(0x102), Some(0x8d))
+    }
+}

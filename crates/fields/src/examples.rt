@@ -3,8 +3,11 @@ ghost use mathlib.Core.Path.{_≡_};
 ghost use Rattle.std.specs.declared.option.Option.the-variants.{Some};
 ghost use Rattle.fields.specs.Examples.{Examples};
 use crate::Field;
-use crate::byte::{ByteArithmetic, ByteField};
-use crate::prime::{PrimeArithmetic, WIDE_FIELD, WidePrime};
+use crate::byte::ByteArithmetic;
+use crate::byte::ByteField;
+use crate::prime::PrimeArithmetic;
+use crate::prime::WIDE_FIELD;
+use crate::prime::WidePrime;
 
 #[derive(Clone, Copy)]
 pub struct Worked {

@@ -86,4 +86,39 @@ pub impl Modulus for WideModulus as WidePrime {
 // The wide field: the numbers below 65,537.
 pub type WideField = PrimeField<WideModulus>;
 
-pub const WIDE_FIELD: WideField = PrimeField { modulus: WideModulus };
+pub const WIDE_FIELD: WideField = PrimeField {
+    modulus: WideModulus,
+};
+
+#[cfg(test)]
+mod tests {
+    use super::*;
+    use std::test::*;
+
+    #[test]
+    fn inverses() -> Result<(), Fail> {
+        check_eq(WIDE_FIELD.inverse(0), None)?;
+        check_eq(WIDE_FIELD.inverse(1), Some(1))?;
+        check_eq(WIDE_FIELD.inverse(2), Some(32769))?;
+        check_eq(WIDE_FIELD.inverse(3), Some(21846))?;
+        check_eq(WIDE_FIELD.inverse(65536), Some(65536))?;
+        for a in 1u32..300 {
+            let inverse = WIDE_FIELD.inverse(a).ok_or("no inverse")?;
+            check_eq(WIDE_FIELD.multiply(a, inverse), 1)?;
+        }
+        Ok(())
+    }
+
+    #[test]
+    fn larger_numbers_are_read_as_remainders() -> Result<(), Fail> {
+        check_eq(WIDE_FIELD.size(), 65537)?;
+        check_eq(WIDE_FIELD.add(65540, 65536), 2)?;
+        check_eq(WIDE_FIELD.add(4294967294, 4294967294), 65535)?;
+        check_eq(WIDE_FIELD.negate(65540), 65534)?;
+        check_eq(WIDE_FIELD.negate(65537), 0)?;
+        check_eq(WIDE_FIELD.multiply(65540, 65541), 12)?;
+        check_eq(WIDE_FIELD.multiply(4294967294, 4294967294), 1)?;
+        check_eq(WIDE_FIELD.inverse(65540), Some(21846))?;
+        check_eq(WIDE_FIELD.inverse(65537), None)
+    }
+}
