@@ -3,6 +3,7 @@
 ghost use mathlib.Core.Path.{_≡_};
 ghost use Rattle.std.specs.declared.option.Option.the-variants.{Some};
 ghost use Rattle.sharing.specs.Refusals.{number, sentence};
+use std::error::Error;
 use std::fmt;
 
 #[derive(Clone, Copy, PartialEq, Eq, Debug)]
@@ -65,3 +66,5 @@ pub impl fmt::Display for Refusal as RefusalDisplay {
         write!(f, "{sentence}")
     }
 }
+
+pub impl Error for Refusal as RefusalError {}
