@@ -94,8 +94,8 @@ impl LoadedDealing<'_> {
         ensures answer { λ r. ⌜ refused r ≡ refuses-issue (F·Field .arithmetic (now (field .entry))) (thresholds (now (self .entry) .policy)) (words-of (now (self .entry) .words)) (coefficients-of (now (self .entry))) level id (length (now (values .entry))) ⌝ }
         ensures values { λ r. ⌜ Cases r (λ _. now (values .exit) ≡ values-of (F·Field .arithmetic (now (field .entry))) (thresholds (now (self .entry) .policy)) (words-of (now (self .entry) .words)) (coefficients-of (now (self .entry))) level id) (λ _. now (values .exit) ≡ now (values .entry)) ⌝ }
     {
-        let coefficients: &[u32] = self.coefficients;
-        try_coefficients(field, &self.policy, &self.words, coefficients)?;
+        let loaded: &[u32] = self.coefficients;
+        try_coefficients(field, &self.policy, &self.words, loaded)?;
         if values.len() != self.words.get() as usize {
             return Err(Refusal::WrongBufferLength);
         }
@@ -106,7 +106,7 @@ impl LoadedDealing<'_> {
             return Err(Refusal::NoSuchLevel);
         };
         let top = self.policy.top() as usize;
-        write_values(field, coefficients, top, order as usize, id, values);
+        write_values(field, loaded, top, order as usize, id, values);
         Ok(())
     }
 
@@ -114,12 +114,12 @@ impl LoadedDealing<'_> {
     pub fn end(self)
         ensures { λ _. ⌜ now (self .exit .0) ≡ replicate (length (now (self .entry .coefficients))) 0 ⌝ }
     {
-        wipe(self.coefficients);
         let LoadedDealing {
-            coefficients: _,
+            coefficients,
             policy: _,
             words: _,
         } = self;
+        wipe(coefficients);
     }
 }
 
