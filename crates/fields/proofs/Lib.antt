@@ -4,6 +4,6 @@ pub mod Inverses
 pub mod Modulo
 mod Each
 mod Linear
-mod Powers
+pub mod Powers
 pub mod ByteLaws
 mod Products

@@ -1,4 +1,8 @@
 -- A byte's product is linear in each factor: exclusive or goes through it.
+--   swap, if-set-value    exclusive or of four numbers in another order, and under `if-set`
+--   left, right           the product is linear in its first factor and in its second
+--   Linear, at-zero       what linear means, and that zero goes to zero
+--   agree                 two linear functions that agree on the powers of x agree
 -- Assumes nothing.
 use mathlib.Core.Path.{_≡_, refl, sym, ap, ap₂, _∙_, subst}
 use Prim.Native.Nat.{ℕ, zero, suc, _*_, _/_, _%_, _^_, _<_}

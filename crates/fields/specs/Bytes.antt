@@ -1,10 +1,11 @@
 -- The bytes as a field, after FIPS 197: a byte is a polynomial over bits, its bit i the coefficient of x^i.
 -- Adding is exclusive or, and multiplying is that of polynomials modulo x^8 + x^4 + x^3 + x + 1, which is 0x11b.
---   if-set      a, if the bit is set
---   xtime       a times x: a shift to the left, and 0x1b more if the top bit was set
---   shifted     a times x^i
---   product     the sum of a times x^i over the bits i of b that are set, of its n lowest
---   bytes       the arithmetic of the byte field
+--   if-set           a, if the bit is set
+--   xtime            a times x: a shift to the left, and 0x1b more if the top bit was set
+--   shifted          a times x^i
+--   product          the sum of a times x^i over the bits i of b that are set, of its n lowest
+--   add, multiply    the sum and the product of two bytes, each told by a number that is read as its remainder
+--   bytes            the arithmetic of the byte field
 -- Assumes nothing.
 use Prim.Native.Nat.{ℕ, zero, suc, _*_, _/_, _%_, _^_}
 use lib.Bits.{bitXor}

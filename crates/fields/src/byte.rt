@@ -56,7 +56,8 @@ pub impl Field for ByteField as ByteArithmetic {
         for _ in 0u32..6 {
             power = self.multiply(self.multiply(power, power), byte);
         }
-        Some(self.multiply(power, power))
+        let inverse = self.multiply(power, power);
+        Some(inverse)
     }
 }
 

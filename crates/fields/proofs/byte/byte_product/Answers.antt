@@ -9,7 +9,7 @@ use Rattle.fields.proofs.byte.byte_product.Needs as need
 
 pub cast-result : need.cast-result
 cast-result c =
-    let h : c .multiply .result < 256 = subst (λ (r : ℕ). r < 256) (sym (c .multiply .ensures)) (multiply-below (c .args .a) (c .args .b)) in
+    let h : c .multiply .result < 256 = subst (λ (r : ℕ). r < 256) (sym (c .multiply .ensures)) (multiply-below _ _) in
     search needs
 
 pub returns : need.returns

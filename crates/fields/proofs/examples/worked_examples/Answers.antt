@@ -16,14 +16,15 @@ examples = record {
 }
 
 pub returns : need.returns
+unfolding if-set xtime shifted product add multiply
 returns c =
     record {
       stated = examples;
       computed = (
-        c .add .ensures ∙ examples .byte-sum,
-        c .multiply .ensures ∙ examples .byte-product,
-        c .multiply-2 .ensures ∙ examples .byte-multiple,
-        c .multiply-3 .ensures ∙ examples .wide-square,
+        c .add .ensures,
+        c .multiply .ensures,
+        c .multiply-2 .ensures,
+        c .multiply-3 .ensures,
         c .inverse .ensures ∙ examples .wide-half,
       );
     }

@@ -34,5 +34,5 @@ pub returns : need.returns
 returns c =
     let e : c .loop .counter ≡ 6 = omega arith in
     let byte = c .args .a % 256 in
-    ap Some (c .multiply-2 .ensures ∙ powered byte (c .loop .power) (c .loop .inv ∙ ap (λ (n : ℕ). chain n byte) e))
+    ap Some (c .multiply-inverse .ensures ∙ powered byte (c .loop .power) (c .loop .inv ∙ ap (λ (n : ℕ). chain n byte) e))
     ∙ sym (inverse-reads (c .args .a) ∙ inverse-of byte (c .if-byte-eq0 .left) (mod-lt (c .args .a) (lit< tt)))
