@@ -51,11 +51,9 @@ unfolding multiply
 multiply-below a b = product-below 8 (a % 256) (b % 256) (low a)
 
 pub add-below : (a b : ℕ) → add a b < 256
-unfolding add
 add-below a b = xor-lt 8 (a % 256) (b % 256) (low a) (low b)
 
 add-is : (a b : ℕ) → a < 256 → b < 256 → add a b ≡ bitXor a b
-unfolding add
 add-is a b ha hb = ap₂ bitXor (mod-eq-of-lt ha) (mod-eq-of-lt hb)
 
 -- ---- multiplying
@@ -149,7 +147,6 @@ add-assoc a b c ha hb hc =
     ∙ ap (bitXor a) (sym (add-is b c hb hc)) ∙ sym (add-is a (add b c) ha (add-below b c))
 
 unfoldable pub byte-lawful : Laws bytes
-unfolding add
 byte-lawful = record {
   two-elements = lit≤ tt;
   size-fits = lit< tt;

@@ -27,7 +27,7 @@ unfoldable pub product : ℕ → ℕ → ℕ → ℕ
 product zero a b = 0
 product (suc i) a b = bitXor (product i a b) (if-set (b / 2 ^ i % 2) (shifted i a))
 
-unfoldable pub add : ℕ → ℕ → ℕ
+abbrev pub add : ℕ → ℕ → ℕ
 add a b = bitXor (a % 256) (b % 256)
 
 unfoldable pub multiply : ℕ → ℕ → ℕ

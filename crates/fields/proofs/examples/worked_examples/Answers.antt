@@ -1,12 +1,12 @@
-use mathlib.Core.Path.{_≡_, refl, _∙_}
+use mathlib.Core.Path.{refl, _∙_}
 use lib.Dec.{lit<}
-use Rattle.fields.specs.Bytes.{if-set, xtime, shifted, product, add, multiply}
+use Rattle.fields.specs.Bytes.{if-set, xtime, shifted, product, multiply}
 use Rattle.fields.specs.Examples.{Examples}
 use Rattle.fields.proofs.Inverses.{inverse-by}
 use Rattle.fields.proofs.examples.worked_examples.Needs as need
 
 examples : Examples
-unfolding if-set xtime shifted product add multiply
+unfolding if-set xtime shifted product multiply
 examples = record {
   byte-sum = refl;
   byte-product = refl;
@@ -16,7 +16,7 @@ examples = record {
 }
 
 pub returns : need.returns
-unfolding if-set xtime shifted product add multiply
+unfolding if-set xtime shifted product multiply
 returns c =
     record {
       stated = examples;
