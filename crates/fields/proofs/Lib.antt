@@ -7,3 +7,4 @@ mod Linear
 pub mod Powers
 pub mod ByteLaws
 mod Products
+pub mod Worked

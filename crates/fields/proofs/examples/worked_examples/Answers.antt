@@ -1,19 +1,7 @@
-use mathlib.Core.Path.{refl, _∙_}
-use lib.Dec.{lit<}
+use mathlib.Core.Path.{_∙_}
 use Rattle.fields.specs.Bytes.{if-set, xtime, shifted, product, multiply}
-use Rattle.fields.specs.Examples.{Examples}
-use Rattle.fields.proofs.Inverses.{inverse-by}
+use Rattle.fields.proofs.Worked.{examples}
 use Rattle.fields.proofs.examples.worked_examples.Needs as need
-
-examples : Examples
-unfolding if-set xtime shifted product multiply
-examples = record {
-  byte-sum = refl;
-  byte-product = refl;
-  byte-multiple = refl;
-  wide-square = refl;
-  wide-half = inverse-by 65537 2 32769 (lit< tt) refl;
-}
 
 pub returns : need.returns
 unfolding if-set xtime shifted product multiply

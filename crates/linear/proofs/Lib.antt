@@ -1,0 +1,17 @@
+pub mod Fields
+pub mod Systems
+pub mod Reduction
+pub mod Values
+pub mod Sums
+pub mod RowOperations
+pub mod Substitution
+pub mod Elimination
+pub mod Knowledge
+pub mod Verdicts
+pub mod Codes
+pub mod Reading
+pub mod Steps
+pub mod Intake
+pub mod Decisions
+pub mod Answering
+pub mod Examples
