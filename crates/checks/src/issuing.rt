@@ -179,7 +179,13 @@ fn issue<F: Field>(
 }
 
 // A card of one word.
-fn value<F: Field>(field: &F, thresholds: &[u8], coefficients: &[u32], level: u8, id: u32) -> Option<u32> {
+fn value<F: Field>(
+    field: &F,
+    thresholds: &[u8],
+    coefficients: &[u32],
+    level: u8,
+    id: u32,
+) -> Option<u32> {
     let mut values = [0];
     match issue(field, thresholds, 1, coefficients, level, id, &mut values) {
         Ok(()) => Some(values[0]),
@@ -224,7 +230,10 @@ fn byte_cards() -> Result<(), Fail> {
     check_eq(value(bytes, &[1, 2], &[0x53, 0xca], 1, 255), Some(213))?;
     check_eq(value(bytes, &[31, 32], &THIRTY_TWO_BYTES, 0, 3), Some(231))?;
     check_eq(value(bytes, &[31, 32], &THIRTY_TWO_BYTES, 1, 3), Some(43))?;
-    check_eq(value(bytes, &[31, 32], &THIRTY_TWO_BYTES, 1, 255), Some(122))
+    check_eq(
+        value(bytes, &[31, 32], &THIRTY_TWO_BYTES, 1, 255),
+        Some(122),
+    )
 }
 
 #[test]
@@ -250,23 +259,53 @@ fn refused_issues() -> Result<(), Fail> {
     let wide = &WIDE_FIELD;
     let mut values = [77];
     check_eq(refusal(issue(wide, &[2, 3], 1, &[7, 4], 9, 0, &mut [])), 6)?;
-    check_eq(refusal(issue(wide, &[2, 3], 1, &[7, 4, 65537], 9, 0, &mut [])), 7)?;
-    check_eq(refusal(issue(wide, &[2, 3], 1, &[7, 4, 65536], 9, 0, &mut [])), 8)?;
-    check_eq(refusal(issue(wide, &[2, 3], 1, &[7, 4, 5], 9, 0, &mut values)), 9)?;
-    check_eq(refusal(issue(wide, &[2, 3], 1, &[7, 4, 5], 9, 65537, &mut values)), 9)?;
-    check_eq(refusal(issue(wide, &[2, 3], 1, &[7, 4, 5], 2, 65536, &mut values)), 10)?;
+    check_eq(
+        refusal(issue(wide, &[2, 3], 1, &[7, 4, 65537], 9, 0, &mut [])),
+        7,
+    )?;
+    check_eq(
+        refusal(issue(wide, &[2, 3], 1, &[7, 4, 65536], 9, 0, &mut [])),
+        8,
+    )?;
+    check_eq(
+        refusal(issue(wide, &[2, 3], 1, &[7, 4, 5], 9, 0, &mut values)),
+        9,
+    )?;
+    check_eq(
+        refusal(issue(wide, &[2, 3], 1, &[7, 4, 5], 9, 65537, &mut values)),
+        9,
+    )?;
+    check_eq(
+        refusal(issue(wide, &[2, 3], 1, &[7, 4, 5], 2, 65536, &mut values)),
+        10,
+    )?;
     check_eq(values, [77])?;
-    check_eq(refusal(issue(wide, &[2, 3], 1, &[7, 4, 5], 1, 65536, &mut values)), 0)?;
-    check_eq(refusal(issue(&ByteField, &[2, 3], 1, &[7, 256, 5], 0, 1, &mut values)), 7)?;
-    check_eq(refusal(issue(&ByteField, &[2, 3], 1, &[7, 4, 5], 0, 256, &mut values)), 9)
+    check_eq(
+        refusal(issue(wide, &[2, 3], 1, &[7, 4, 5], 1, 65536, &mut values)),
+        0,
+    )?;
+    check_eq(
+        refusal(issue(&ByteField, &[2, 3], 1, &[7, 256, 5], 0, 1, &mut values)),
+        7,
+    )?;
+    check_eq(
+        refusal(issue(&ByteField, &[2, 3], 1, &[7, 4, 5], 0, 256, &mut values)),
+        9,
+    )
 }
 
 #[test]
 fn loading_is_tried_first() -> Result<(), Fail> {
     let opened = OpenedDealing::new(Policy::new(&[2, 3])?, WordCount::new(2)?);
     check_eq(refusal(opened.trial(&WIDE_FIELD, &[7, 4, 5, 9, 9])), 6)?;
-    check_eq(refusal(opened.trial(&WIDE_FIELD, &[7, 4, 5, 9, 9, 65537])), 7)?;
-    check_eq(refusal(opened.trial(&WIDE_FIELD, &[7, 4, 5, 9, 9, 65536])), 0)?;
+    check_eq(
+        refusal(opened.trial(&WIDE_FIELD, &[7, 4, 5, 9, 9, 65537])),
+        7,
+    )?;
+    check_eq(
+        refusal(opened.trial(&WIDE_FIELD, &[7, 4, 5, 9, 9, 65536])),
+        0,
+    )?;
     check_eq(refusal(opened.trial(&ByteField, &[7, 4, 5, 9, 9, 256])), 7)
 }
 

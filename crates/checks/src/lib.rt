@@ -1,3 +1,7 @@
 // Tests of the libraries: outside vectors and the edges of every rule.
 #[cfg(test)]
 mod issuing;
+#[cfg(test)]
+mod pools;
+#[cfg(test)]
+mod systems;

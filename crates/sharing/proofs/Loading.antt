@@ -1,32 +1,20 @@
--- Coefficients that are tried one after the other.
---   any-here, any-next, any-end    a test over what is left of a list: met at the front, not met there, nothing left
---   as-many                        the test of a length that is w × t
---   fit                            coefficients that no condition refuses: there are w × t of them, each an element
+-- Coefficients that fit.
+--   as-many    the test of a length that is w × t
+--   fit        coefficients that no condition refuses: there are w × t of them, each an element
 -- Assumes nothing.
 use mathlib.Core.Path.{_≡_, refl, _∙_, ap, ap₂}
-use mathlib.Core.List.{List, [], _∷_}
-use mathlib.Core.Bool.{Bool, true, false, not, cond, _||_}
-use Prim.Native.Nat.{ℕ, _+_, _*_, _<_, _≤_}
+use mathlib.Core.List.{List}
+use mathlib.Core.Bool.{Bool, true, false, not, cond}
+use Prim.Native.Nat.{ℕ, _*_}
 use native.Mathlib.Omega.{arith}
 use borrow.Author.Tests.{eq-eqb}
 use lib.Dec.{eqb, leb}
-use lib.ListN.{length, getD, drop}
-use Rattle.std.proofs.shelf.Lists.{at-drop-more, at-drop-all}
+use lib.ListN.{length}
 use Rattle.std.specs.declared.option.Option.{Option}
 use Rattle.std.specs.declared.option.Option.the-variants.{Some, None}
 use Rattle.fields.specs.Arithmetic.{Arithmetic}
 use Rattle.sharing.specs.Cards.{top}
 use Rattle.sharing.specs.Refusals.{any, refuses-loading}
-
-module _ (p : ℕ → Bool) (xs : List ℕ) (i : ℕ) (left : any p xs ≡ any p (drop i xs)) where
-  pub any-here : i < length xs → p (getD xs i 0) ≡ true → any p xs ≡ true
-  any-here l e = left ∙ at-drop-more (any p) xs i 0 l ∙ ap (λ b. b || any p (drop (i + 1) xs)) e
-
-  pub any-next : i < length xs → p (getD xs i 0) ≡ false → any p xs ≡ any p (drop (i + 1) xs)
-  any-next l e = left ∙ at-drop-more (any p) xs i 0 l ∙ ap (λ b. b || any p (drop (i + 1) xs)) e
-
-  pub any-end : length xs ≤ i → any p xs ≡ false
-  any-end l = left ∙ at-drop-all (any p) xs i l
 
 pub as-many : (n a b w t : ℕ) → a ≡ w → b ≡ t → n ≡ a * b → not (eqb n (w * t)) ≡ false
 as-many n a b w t e f h = ap not (eq-eqb n (w * t) (h ∙ ap₂ (λ (x y : ℕ). x * y) e f))

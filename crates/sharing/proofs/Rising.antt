@@ -6,16 +6,15 @@
 --   placed-next                       one more threshold that rises above the one before
 --   misplaced-here                    a threshold that does not
 -- Assumes nothing.
-use mathlib.Core.Path.{_≡_, refl, sym, _∙_, ap, subst}
+use mathlib.Core.Path.{_≡_, refl, sym, _∙_, ap}
 use mathlib.Core.List.{List}
-use mathlib.Core.Bool.{Bool, true, false, _||_, _&&_}
-use mathlib.Core.Logic.{⊎-elim}
+use mathlib.Core.Bool.{Bool, true, false}
 use Prim.Native.Nat.{ℕ, zero, suc, _+_, _-_, _<_, _≤_}
 use native.Mathlib.Omega.{arith}
 use native.Mathlib.Numerals.{add-one}
 use native.Mathlib.Decide.{ℕ-discrete}
 use lib.ListN.{length, getD}
-use Rattle.std.proofs.shelf.Tests.{or-parts, or-left, or-right, or-from, ltb-false, leb-false, eqb-false, cases-eq}
+use Rattle.std.proofs.shelf.Tests.{or-parts, or-left, or-right, or-from}
 use Rattle.std.proofs.shelf.Ways.{tells}
 use Rattle.sharing.specs.Cards.{top}
 use Rattle.sharing.specs.Refusals.{somewhere, misplaced, disordered}

@@ -53,3 +53,24 @@ order ts level = top ts - getD ts level 0
 -- the w values that the coefficients x give a card of this level and id; word j has the coefficients j × t to j × t + t - 1
 abbrev pub values-of : Arithmetic → List ℕ → ℕ → List ℕ → ℕ → ℕ → List ℕ
 values-of F ts w x level id = row w (λ j. derivative F (top ts) (order ts level) id (λ i. getD x (j * top ts + i) 0))
+
+-- the key that the coefficients x carry: the last coefficient of every word
+abbrev pub key-of : List ℕ → ℕ → List ℕ → List ℕ
+key-of ts w x = row w (λ j. getD x (j * top ts + (top ts - 1)) 0)
+
+pub record Card : Type 0 where
+  pub level : ℕ
+  pub id : ℕ
+  pub values : List ℕ
+
+-- n elements of the field
+pub record Elements (F : Arithmetic) (n : ℕ) (xs : List ℕ) : Type 0 where
+  pub long : length xs ≡ n
+  pub below : (k : ℕ) → k < n → getD xs k 0 < F .size
+
+abbrev pub Agrees : Arithmetic → List ℕ → ℕ → List ℕ → Card → Type 0
+Agrees F ts w x c = c .values ≡ values-of F ts w x (c .level) (c .id)
+
+abbrev pub Every : {A : Type 0} → (A → Type 0) → List A → Type 0
+Every P [] = Unit {0}
+Every P (x ∷ xs) = P x × Every P xs

@@ -7,6 +7,7 @@ ghost use Rattle.sharing.specs.Cards.{values-of};
 ghost use Rattle.sharing.specs.Dealings.{coefficients-of, words-of};
 ghost use Rattle.sharing.specs.Policies.{thresholds};
 ghost use Rattle.sharing.specs.Refusals.{refused, refuses-loading, refuses-issue};
+use crate::elements::any_outside;
 use crate::policy::Policy;
 use crate::refusal::Refusal;
 use crate::values::write_values;
@@ -39,10 +40,8 @@ fn try_coefficients<F: Field>(
     if coefficients.len() != words.get() as usize * policy.top() as usize {
         return Err(Refusal::WrongCoefficientCount);
     }
-    for coefficient in coefficients {
-        if *coefficient >= field.size() {
-            return Err(Refusal::CoefficientOutsideField);
-        }
+    if any_outside(field, coefficients) {
+        return Err(Refusal::CoefficientOutsideField);
     }
     Ok(())
 }

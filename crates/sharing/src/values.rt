@@ -1,23 +1,23 @@
 // The values on a card: derivatives of the polynomials that a key's words are hidden in.
 ghost use mathlib.Core.Path.{_≡_};
-ghost use Prim.Native.Nat.{ℕ, _+_, _-_, _*_, _<_, _≤_};
+ghost use Prim.Native.Nat.{_+_, _*_, _<_, _≤_};
 ghost use lib.ListN.{length, getD};
-ghost use Rattle.sharing.specs.Cards.{whole, falling, derivative, row};
+ghost use Rattle.sharing.specs.Cards.{falling, derivative, row};
 ghost use Rattle.sharing.specs.Factors.{Wholes};
 use fields::Field;
 
-const MOST_COEFFICIENTS: usize = 32;
+pub(crate) const MOST_COEFFICIENTS: usize = 32;
 
 // The whole numbers that can stand before a coefficient, 0 to 31, as elements of a field. A machine number in their place
 // would overflow in the longest products, and would not be reduced in a small field.
 #[derive(Clone, Copy)]
-struct Factors {
+pub(crate) struct Factors {
     elements: [u32; MOST_COEFFICIENTS],
 }
 
 impl Factors {
     // One is added to the element before.
-    fn of<F: Field>(field: &F) -> Factors
+    pub(crate) fn of<F: Field>(field: &F) -> Factors
         ensures { λ r. ⌜ Wholes (F·Field .arithmetic (now (field .entry))) (r .elements) ⌝ }
     {
         let mut elements = [0; MOST_COEFFICIENTS];
@@ -29,7 +29,7 @@ impl Factors {
 }
 
 // i × (i − 1) × … × (i − order + 1) as an element.
-fn falling<F: Field>(field: &F, factors: &Factors, i: usize, order: usize) -> u32
+pub(crate) fn falling<F: Field>(field: &F, factors: &Factors, i: usize, order: usize) -> u32
     requires wholes { ⌜ Wholes (F·Field .arithmetic (now field)) (now factors .elements) ⌝ }
     requires within { ⌜ order ≤ i ⌝ ∗ ⌜ i < 32 ⌝ }
     ensures { λ r. ⌜ r ≡ falling (F·Field .arithmetic (now (field .entry))) i order ⌝ }

@@ -1,6 +1,6 @@
 // Makes policies, and reads their levels.
 ghost use mathlib.Core.Path.{_≡_};
-ghost use Prim.Native.Nat.{ℕ, _+_, _-_, _<_, _≤_};
+ghost use Prim.Native.Nat.{_<_, _≤_};
 ghost use lib.ListN.{length, getD};
 ghost use Rattle.std.specs.Results.{Cases};
 ghost use Rattle.std.specs.Options.{Cases as BySome};
@@ -11,13 +11,18 @@ use super::Policy;
 use crate::refusal::Refusal;
 
 const MOST_LEVELS: usize = 8;
+
 const LARGEST_THRESHOLD: u8 = 32;
 
 // The number at a place, or 0 past the end.
 fn at(numbers: &[u8], place: usize) -> u8
     ensures { λ r. ⌜ r ≡ getD (now (numbers .entry)) place 0 ⌝ }
 {
-    if place < numbers.len() { numbers[place] } else { 0 }
+    if place < numbers.len() {
+        numbers[place]
+    } else {
+        0
+    }
 }
 
 impl Policy {

@@ -1,4 +1,3 @@
-use mathlib.Core.Path.{_≡_, sym, _∙_, ap, ap₂}
 use Prim.Native.Nat.{ℕ, _+_}
 use lib.ListN.{getD}
 use Rattle.sharing.proofs.Steps.{power-more, term-more}

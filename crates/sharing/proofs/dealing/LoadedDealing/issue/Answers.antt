@@ -1,6 +1,6 @@
 use mathlib.Core.Path.{_≡_, _∙_, ap}
 use mathlib.Core.List.{List}
-use mathlib.Core.Bool.{Bool, true, false, not, _||_}
+use mathlib.Core.Bool.{false, not, _||_}
 use Prim.Native.Nat.{ℕ, _+_, _*_}
 use native.Mathlib.Omega.{arith}
 use borrow.Author.Tests.{eq-eqb, lt-leb}
@@ -34,7 +34,7 @@ returns g c =
     let many : length (c .args .values .now) ≡ w = c .if-values-get .left ∙ c .get .ensures .words in
     let buffer : not (eqb (length (c .args .values .now)) w) ≡ false = ap not (eq-eqb _ w many) in
     let id : (eqb (c .args .id) 0 || leb (F .size) (c .args .id)) ≡ false =
-      right-id (c .args .id) (F .size) (c .if-id-eq0 .left) (omega (arith, c .size .ensures, c .if-id-size .left)) in
+    right-id (c .args .id) (F .size) (c .if-id-eq0 .left) (omega (arith, c .size .ensures, c .if-id-size .left)) in
     let level : leb (length ts) (c .args .level) ≡ false = lt-leb (length ts) (c .args .level) (found .0) in
     let tops = c .top-top .ensures .last in
     let long = loaded .long in

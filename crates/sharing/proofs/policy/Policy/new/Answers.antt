@@ -1,6 +1,6 @@
-use mathlib.Core.Path.{_≡_, refl, sym, _∙_, ap}
-use mathlib.Core.Bool.{Bool, true, false, _||_}
-use Prim.Native.Nat.{_+_, _-_, _<_, _≤_}
+use mathlib.Core.Path.{_≡_, _∙_, ap}
+use mathlib.Core.Bool.{true, false, _||_}
+use Prim.Native.Nat.{_+_, _-_}
 use borrow.Author.Tests.{false-eqb}
 use native.Mathlib.Omega.{arith}
 use lib.Dec.{eqb, ltb}
@@ -16,16 +16,16 @@ pub returns-then-threshold-last : need.returns-then-threshold-last
 returns-then-threshold-last c =
     let ts = c .args .levels .now in
     let few : (eqb (length ts) 0 || ltb 8 (length ts)) ≡ false =
-      right-count (length ts) 8 (false-eqb (length ts) 0 (c .if-is-empty .ensures tt)) (c .if-levels-gt-MOST-LEVELS .left) in
+    right-count (length ts) 8 (false-eqb (length ts) 0 (c .if-is-empty .ensures tt)) (c .if-levels-gt-MOST-LEVELS .left) in
     let i = c .loop-threshold .threshold-index in
     let inv = c .loop-threshold .inv in
     let wrong : disordered ts ≡ true =
-      elim (c .then-threshold-last .came) [
-        | then-threshold-last·by·then-threshold-last w ↦
-            misplaced-here ts i (c .loop-threshold .last) (c .loop-threshold-test .taken) (inv .1) (inv .2) (λ a b. omega (arith, w .if-threshold-last .taken))
-        | then-threshold-last·by·else-threshold-last·then-threshold-gt-LARGEST-THRESHOLD w ↦
-            misplaced-here ts i (c .loop-threshold .last) (c .loop-threshold-test .taken) (inv .1) (inv .2) (λ a b. omega (arith, w .if-threshold-gt-LARGEST-THRESHOLD .taken))
-      ] in
+    elim (c .then-threshold-last .came) [
+      | then-threshold-last·by·then-threshold-last w ↦
+          misplaced-here ts i (c .loop-threshold .last) (c .loop-threshold-test .taken) (inv .1) (inv .2) (λ a b. omega (arith, w .if-threshold-last .taken))
+      | then-threshold-last·by·else-threshold-last·then-threshold-gt-LARGEST-THRESHOLD w ↦
+          misplaced-here ts i (c .loop-threshold .last) (c .loop-threshold-test .taken) (inv .1) (inv .2) (λ a b. omega (arith, w .if-threshold-gt-LARGEST-THRESHOLD .taken))
+    ] in
     record { answer = rw (few, wrong); made = tt }
 
 pub loop-threshold-again : need.loop-threshold-again
@@ -33,10 +33,11 @@ loop-threshold-again c =
     let ts = c .args .levels .now in
     let i = c .loop-threshold .threshold-index in
     let inv = c .loop-threshold .inv in
-    let same : i ≡ i + 1 - 1 = omega arith in
-    ( placed-next ts i (c .loop-threshold .last) (inv .0) (inv .1) (c .if-threshold-last .left) (c .if-threshold-gt-LARGEST-THRESHOLD .left)
-    , (λ l. ap (λ k. getD ts k 0) same)
-    , λ z. absurd (omega arith) )
+    let same : i ≡ i + 1 - 1 = omega arith in (
+      placed-next ts i (c .loop-threshold .last) (inv .0) (inv .1) (c .if-threshold-last .left) (c .if-threshold-gt-LARGEST-THRESHOLD .left),
+      (λ l. ap (λ k. getD ts k 0) same),
+      λ z. absurd (omega arith),
+    )
 
 in-order : (c : need.After-result·1) → disordered (c .args .levels .now) ≡ false
 in-order c =
@@ -47,5 +48,5 @@ pub returns : need.returns
 returns c =
     let ts = c .args .levels .now in
     let few : (eqb (length ts) 0 || ltb 8 (length ts)) ≡ false =
-      right-count (length ts) 8 (false-eqb (length ts) 0 (c .if-is-empty .ensures tt)) (c .if-levels-gt-MOST-LEVELS .left) in
+    right-count (length ts) 8 (false-eqb (length ts) 0 (c .if-is-empty .ensures tt)) (c .if-levels-gt-MOST-LEVELS .left) in
     record { answer = rw (few, in-order c); made = cc (read-back ts (c .if-levels-gt-MOST-LEVELS .left)) }

@@ -1,5 +1,3 @@
-use mathlib.Core.Path.{_≡_}
-use Prim.Native.Nat.{_-_, _≤_}
 use native.Mathlib.Omega.{arith}
 use Rattle.sharing.specs.Policies.{thresholds}
 use Rattle.sharing.proofs.Rising.{ranged, at-most-top}
