@@ -4,4 +4,8 @@ mod issuing;
 #[cfg(test)]
 mod pools;
 #[cfg(test)]
+mod readers;
+#[cfg(test)]
+mod reports;
+#[cfg(test)]
 mod systems;

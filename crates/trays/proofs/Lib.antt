@@ -1,0 +1,11 @@
+mod Back
+mod Cards
+mod Keys
+mod Lines
+mod Numbers
+mod Openings
+mod OneWay
+mod Orders
+mod Requests
+mod Runs
+mod Said
