@@ -3,9 +3,9 @@
 --   reports                    what was opened, and how its cards came out, is a report
 use mathlib.Core.Path.{_≡_, ap, sym, _∙_, subst}
 use mathlib.Core.List.{List, []}
-use mathlib.Core.Bool.{cond}
+use mathlib.Core.Bool.{true, false, cond}
 use Prim.Native.Nat.{ℕ}
-use borrow.Author.Tests.{eq-eqb, ne-eqb}
+use lib.Dec.{eqb}
 use lib.ListN.{length}
 use Rattle.std.specs.declared.option.Option.the-variants.{Some}
 use Rattle.fields.specs.Arithmetic.{Arithmetic}
@@ -20,11 +20,11 @@ use Rattle.trays.specs.declared.opening.Opening.{Opening}
 use Rattle.trays.specs.declared.reader.TrayReader.{TrayReader}
 use Rattle.trays.specs.declared.report.TrayReport.{TrayReport}
 
-pub named-bytes : (b : ℕ) → b ≡ 1 → bytes ≡ arithmetic-of b
-named-bytes b h = ap (λ x. cond x bytes wide) (sym (eq-eqb b 1 h))
+pub named-bytes : (b : ℕ) → eqb b 1 ≡ true → bytes ≡ arithmetic-of b
+named-bytes b h = ap (λ x. cond x bytes wide) (sym h)
 
-pub named-wide : (b : ℕ) → (b ≡ 1 → ⊥) → wide ≡ arithmetic-of b
-named-wide b h = ap (λ x. cond x bytes wide) (sym (ne-eqb b 1 h))
+pub named-wide : (b : ℕ) → eqb b 1 ≡ false → wide ≡ arithmetic-of b
+named-wide b h = ap (λ x. cond x bytes wide) (sym h)
 
 module _ (F : Arithmetic) (o : Opening) (t : TrayReader) (parts : List Placed) (e : Ending) (cards : List Placed) (r : TrayReport) where
   pub reports : F ≡ arithmetic-of (o .field) → OpensAs o t parts e cards

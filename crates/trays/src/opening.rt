@@ -1,7 +1,7 @@
 // Reads a tray up to its cards.
 ghost use mathlib.Core.List.{List};
 ghost use mathlib.Core.Path.{_≡_};
-ghost use Prim.Native.Nat.{ℕ, _≤_};
+ghost use Prim.Native.Nat.{ℕ, _-_, _≤_};
 ghost use Rattle.std.specs.Results.{Cases};
 ghost use Rattle.sharing.specs.Dealings.{words-of};
 ghost use Rattle.sharing.specs.Policies.{thresholds};
@@ -41,16 +41,17 @@ pub impl From<Fault> for Stop as StopByReader {
     }
 }
 
-// The policy with the thresholds whose part stands at `offset`.
+// The policy with the thresholds, the first of which stands at `offset`. Their part begins one byte earlier, with their count.
 fn policy_at(levels: &[u8], offset: usize) -> Result<Policy, Stop>
-    ensures { λ r. ⌜ Cases r (λ p. (thresholds p ≡ now (levels .entry)) × (refuses-policy (now (levels .entry)) ≡ None)) (λ s. (n : ℕ) × (refuses-policy (now (levels .entry)) ≡ Some n) × Stops n layer.Policy offset s) ⌝ }
+    requires { ⌜ 1 ≤ offset ⌝ }
+    ensures { λ r. ⌜ Cases r (λ p. (thresholds p ≡ now (levels .entry)) × (refuses-policy (now (levels .entry)) ≡ None)) (λ s. (n : ℕ) × (refuses-policy (now (levels .entry)) ≡ Some n) × Stops n layer.Policy (offset - 1) s) ⌝ }
 {
     match Policy::new(levels) {
         Ok(policy) => Ok(policy),
         Err(refusal) => Err(Stop {
             refusal,
             layer: Layer::Policy,
-            offset,
+            offset: offset - 1,
         }),
     }
 }
@@ -66,8 +67,7 @@ fn word_count(words: u8) -> WordCount
     count
 }
 
-// Reads a whole tray up to its card count. The offset of thresholds is that of their first byte, and their part begins one
-// byte earlier, with their count.
+// Reads a whole tray up to its card count.
 pub(super) fn open(reader: &mut TrayReader) -> Result<Opening, Stop>
     requires { ⌜ ((parts : List Placed) (e : Ending) → Reading (now reader) parts e → Whole parts e) ⌝ }
     ensures parts { λ r. ⌜ ((parts : List Placed) (e : Ending) → Reading (now (reader .entry)) parts e → OpensTo r (now (reader .exit)) parts e) ⌝ }
@@ -79,7 +79,7 @@ pub(super) fn open(reader: &mut TrayReader) -> Result<Opening, Stop>
     let Item::Thresholds { bytes, offset } = reader.next()? else {
         unreachable()
     };
-    let policy = policy_at(bytes, offset - 1)?;
+    let policy = policy_at(bytes, offset)?;
     let Item::Words(words) = reader.next()? else {
         unreachable()
     };

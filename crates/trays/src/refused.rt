@@ -2,6 +2,7 @@
 ghost use mathlib.Core.List.{[], _∷_, _++_};
 ghost use mathlib.Core.Path.{_≡_};
 ghost use Prim.Native.Nat.{_+_, _<_};
+ghost use Rattle.sharing.specs.Refusals.{number};
 ghost use Rattle.trays.specs.Report.{refused-list};
 ghost use Rattle.trays.specs.Runs.{turned-by, turned-card};
 use super::report::RefusedCard;
@@ -9,6 +10,20 @@ use super::report::RefusedCards;
 use sharing::refusal::Refusal;
 
 const MOST_CARDS: usize = 255;
+
+impl RefusedCard {
+    // The refused card at an index, which counts from 0; the ordinal counts from 1.
+    pub(super) fn at(index: u8, offset: usize, refusal: Refusal) -> RefusedCard
+        requires { ⌜ index < 255 ⌝ }
+        ensures { λ r. ⌜ turned-card r ≡ record { ordinal = index + 1; offset = offset; reason = number refusal } ⌝ }
+    {
+        RefusedCard {
+            ordinal: index + 1,
+            offset,
+            refusal,
+        }
+    }
+}
 
 impl RefusedCards {
     pub(super) fn none() -> RefusedCards

@@ -1,6 +1,7 @@
 // Runs a whole tray.
 ghost use mathlib.Core.List.{List, []};
 ghost use mathlib.Core.Path.{_≡_};
+ghost use lib.Dec.{eqb};
 ghost use lib.ListN.{length};
 ghost use Rattle.sharing.specs.Dealings.{words-of};
 ghost use Rattle.sharing.specs.Policies.{thresholds};
@@ -26,6 +27,13 @@ use fields::prime::WidePrime;
 use sharing::pool::Pool;
 
 const BYTE_FIELD: u8 = 1;
+
+// Whether a field byte names the byte field; the other one names the wide field.
+fn names_bytes(code: u8) -> bool
+    ensures { λ r. ⌜ r ≡ eqb code 1 ⌝ }
+{
+    code == BYTE_FIELD
+}
 
 // Runs the cards of a tray over a field.
 fn run_cards<F: Field + Drop>(field: F, opening: Opening, mut reader: TrayReader) -> TrayReport
@@ -63,7 +71,7 @@ pub fn run_tray(bytes: &[u8]) -> TrayReport
     let mut reader = TrayReader::new(bytes);
     match open(&mut reader) {
         Ok(opening) => {
-            if opening.field == BYTE_FIELD {
+            if names_bytes(opening.field) {
                 run_cards(ByteField, opening, reader)
             } else {
                 run_cards(WIDE_FIELD, opening, reader)

@@ -36,13 +36,13 @@ pub(super) struct Session<F> {
 }
 
 impl<F: Field> Session<F> {
-    // Presents one card; a refusal is kept, and stops nothing.
-    fn present(&mut self, words: u8, ordinal: u8, bytes: &[u8], offset: usize)
+    // Presents the card at an index; a refusal is kept, and stops nothing.
+    fn present(&mut self, words: u8, index: u8, bytes: &[u8], offset: usize)
         requires words { ⌜ words ≡ words-of (now self .pool .words) ⌝ ∗ ⌜ Sized words (now bytes) ⌝ }
-        requires room { ⌜ now self .refused .count < 255 ⌝ }
+        requires room { ⌜ now self .refused .count < 255 ⌝ ∗ ⌜ index < 255 ⌝ }
         ensures list { λ _. ⌜ card-list (now (self .exit) .pool) ≡ step (F·Field .arithmetic (now (self .entry) .pool .field)) (thresholds (now (self .entry) .pool .policy)) (words-of (now (self .entry) .pool .words)) (card-list (now (self .entry) .pool)) (present (card-in words (now (bytes .entry)))) ⌝ }
         ensures frame { λ _. ⌜ Frame (now (self .entry) .pool) (now (self .exit) .pool) ⌝ }
-        ensures refusals { λ _. ⌜ turned-by (now (self .exit) .refused) ≡ turned-by (now (self .entry) .refused) ++ told ordinal offset (refuses-card (F·Field .arithmetic (now (self .entry) .pool .field)) (thresholds (now (self .entry) .pool .policy)) (words-of (now (self .entry) .pool .words)) (card-list (now (self .entry) .pool) .held) (card-in words (now (bytes .entry)))) ⌝ }
+        ensures refusals { λ _. ⌜ turned-by (now (self .exit) .refused) ≡ turned-by (now (self .entry) .refused) ++ told (index + 1) offset (refuses-card (F·Field .arithmetic (now (self .entry) .pool .field)) (thresholds (now (self .entry) .pool .policy)) (words-of (now (self .entry) .pool .words)) (card-list (now (self .entry) .pool) .held) (card-in words (now (bytes .entry)))) ⌝ }
         ensures counted { λ _. ⌜ now (self .exit) .refused .count ≤ now (self .entry) .refused .count + 1 ⌝ }
     {
         let Some(card) = card_of(bytes, words) else {
@@ -51,11 +51,7 @@ impl<F: Field> Session<F> {
         let values = card.values;
         if let Err(refusal) = self.pool
             .present(card.level, card.id, &values[0..words as usize]) {
-            self.refused.push(RefusedCard {
-                ordinal,
-                offset,
-                refusal,
-            });
+            self.refused.push(RefusedCard::at(index, offset, refusal));
         }
     }
 
@@ -76,7 +72,7 @@ impl<F: Field> Session<F> {
             let Item::Card { bytes, offset } = reader.next()? else {
                 unreachable()
             };
-            self.present(words, i + 1, bytes, offset);
+            self.present(words, i, bytes, offset);
         }
         let Item::End = reader.next()? else {
             unreachable()

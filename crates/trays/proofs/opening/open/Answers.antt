@@ -56,8 +56,8 @@ unreachable-requires-in-rest-2 c κs =
     let l = thresholds-read (c .next-2 .last .self) (c .in-Continue-bytes .field-0) (f .reads) (c .in-Continue-bytes .ensures tt .reads (f .others) (all .1) (f .left)) in
     c .in-rest-2 .not-Thresholds (l .levels) _ (l .is)
 
-pub sub-offset : need.sub-offset
-sub-offset c =
+pub policy-at-requires : need.policy-at-requires
+policy-at-requires c κs =
     let all = reader-one-way (c .args .reader .now) in
     let whole = c .pre (all .0) (all .1) (all .2) in
     let f = field-read (c .next .last .self) (c .in-Continue-field .field-0) (whole .1) (c .in-Continue-field .ensures tt .reads (all .0) (all .1) (all .2)) in

@@ -43,7 +43,7 @@ present-requires g c κs =
           long = card-first (now (c .in-Card .bytes)) (c .in-Card .offset) _ (so .to-come .2) is .0;
         },
       );
-      room = omega (arith, c .loop-i .inv .0, c .loop-i-test .taken, c .fits .cards);
+      room = (omega (arith, c .loop-i .inv .0, c .loop-i-test .taken, c .fits .cards), omega (arith, c .loop-i-test .taken, c .fits .cards));
     }
 
 pub loop-i-again : need.loop-i-again
