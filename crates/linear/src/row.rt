@@ -69,20 +69,10 @@ pub(crate) fn scale<F: Field>(
     ensures left { λ _. ⌜ Rewritten (times (arithmetic (now (field .entry))) factor (now (row .entry) .coefficients)) column (shape .unknowns) (now (row .entry) .coefficients) (now (row .exit) .coefficients) ⌝ }
     ensures right { λ _. ⌜ Rewritten (times (arithmetic (now (field .entry))) factor (now (row .entry) .«right_sides»)) 0 (shape .«right_sides») (now (row .entry) .«right_sides») (now (row .exit) .«right_sides») ⌝ }
 {
-    multiply_all(
-        field,
-        &mut row.coefficients,
-        factor,
-        column,
-        shape.unknowns() as usize,
-    );
-    multiply_all(
-        field,
-        &mut row.right_sides,
-        factor,
-        0,
-        shape.right_sides() as usize,
-    );
+    let unknowns = shape.unknowns() as usize;
+    let right_sides = shape.right_sides() as usize;
+    multiply_all(field, &mut row.coefficients, factor, column, unknowns);
+    multiply_all(field, &mut row.right_sides, factor, 0, right_sides);
 }
 
 // What an equation tells of which nothing is left on the left: its right sides are zero too, or nothing satisfies it.
