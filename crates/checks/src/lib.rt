@@ -1,4 +1,6 @@
 // Tests of the libraries: outside vectors and the edges of every rule.
+#![tactic(auto)]
+
 #[cfg(test)]
 mod issuing;
 #[cfg(test)]

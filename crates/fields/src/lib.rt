@@ -1,4 +1,6 @@
 // Finite fields whose elements are told by numbers.
+#![tactic(auto)]
+
 ghost use Rattle.std.specs.Prelude.{◌≡◌};
 ghost use Rattle.fields.specs.Arithmetic.{Arithmetic, Laws};
 

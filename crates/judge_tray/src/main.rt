@@ -1,4 +1,6 @@
 // Judges the tray on standard input, and prints what comes of it.
+#![tactic(auto)]
+
 ghost use Rattle.std.specs.Prelude.{◌≤◌, length, IfOk};
 
 use reports::run::run_tray;

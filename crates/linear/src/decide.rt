@@ -19,9 +19,9 @@ pub enum Decision {
 
 // Says what the equations tell of the form.
 pub fn decide<F: Field>(field: &F, shape: Shape, equations: &[Equation], form: &Form) -> Decision
-    ensures right { Decides (arithmetic field.now) shape.unknowns shape.right_sides equations.now form.now result }
-    ensures only { (d : Decision) → Decides (arithmetic field.now) shape.unknowns shape.right_sides equations.now form.now d → d ≡ result }
-    ensures in_any_order { (others : List Equation) → SameMembers equations.now others → Decides (arithmetic field.now) shape.unknowns shape.right_sides others form.now result }
+    ensures right { Decides (F.Field.arithmetic field.now) shape.unknowns shape.right_sides equations.now form.now result }
+    ensures only { (d : Decision) → Decides (F.Field.arithmetic field.now) shape.unknowns shape.right_sides equations.now form.now d → d ≡ result }
+    ensures in_any_order { (others : List Equation) → SameMembers equations.now others → Decides (F.Field.arithmetic field.now) shape.unknowns shape.right_sides others form.now result }
 {
     eliminate(field, shape, equations, form)
 }

@@ -45,8 +45,8 @@ impl Echelon {
         shape: Shape,
         equation: &Equation,
     ) -> Inserted
-        requires { InEchelonForm (arithmetic field.now) shape.unknowns self.old.rows }
-        ensures { Inserts (arithmetic field.now) shape.unknowns shape.right_sides self.old.rows equation.now self.new.rows result }
+        requires { InEchelonForm (F.Field.arithmetic field.now) shape.unknowns self.old.rows }
+        ensures { Inserts (F.Field.arithmetic field.now) shape.unknowns shape.right_sides self.old.rows equation.now self.new.rows result }
     {
         let mut row = *equation;
         for column in 0..shape.unknowns() as usize {
@@ -66,7 +66,7 @@ impl Echelon {
 
     // The rows that stand for the equations; none where no values satisfy them all.
     pub(crate) fn of<F: Field>(field: &F, shape: Shape, equations: &[Equation]) -> Option<Echelon>
-        ensures { MatchOption result (NeverSatisfied (arithmetic field.now) shape.unknowns shape.right_sides equations.now) (λ e. Stands (arithmetic field.now) shape.unknowns shape.right_sides equations.now e.rows) }
+        ensures { MatchOption result (NeverSatisfied (F.Field.arithmetic field.now) shape.unknowns shape.right_sides equations.now) (λ e. Stands (F.Field.arithmetic field.now) shape.unknowns shape.right_sides equations.now e.rows) }
     {
         let mut echelon = Echelon::empty();
         for equation in equations {
@@ -79,8 +79,8 @@ impl Echelon {
 
     // Clears the form at every column that has a row: what is left at the others tells whether its value is free.
     pub(crate) fn decide<F: Field>(&self, field: &F, shape: Shape, form: &Form) -> Decision
-        requires { InEchelonForm (arithmetic field.now) shape.unknowns self.now.rows }
-        ensures { (equations : List Equation) → Stands (arithmetic field.now) shape.unknowns shape.right_sides equations self.now.rows → Decides (arithmetic field.now) shape.unknowns shape.right_sides equations form.now result }
+        requires { InEchelonForm (F.Field.arithmetic field.now) shape.unknowns self.now.rows }
+        ensures { (equations : List Equation) → Stands (F.Field.arithmetic field.now) shape.unknowns shape.right_sides equations self.now.rows → Decides (F.Field.arithmetic field.now) shape.unknowns shape.right_sides equations form.now result }
     {
         let mut row = homogeneous(form);
         for column in 0..shape.unknowns() as usize {
@@ -99,7 +99,7 @@ pub(crate) fn eliminate<F: Field>(
     equations: &[Equation],
     form: &Form,
 ) -> Decision
-    ensures { Promise (arithmetic field.now) shape.unknowns shape.right_sides equations.now form.now result }
+    ensures { Promise (F.Field.arithmetic field.now) shape.unknowns shape.right_sides equations.now form.now result }
 {
     let Some(echelon) = Echelon::of(field, shape, equations) else {
         return Decision::Contradictory;

@@ -1,4 +1,6 @@
 // What a list of linear equations says of a linear form, over any field.
+#![tactic(auto)]
+
 pub mod decide;
 mod echelon;
 pub mod equation;

@@ -15,7 +15,7 @@ pub(crate) fn add_multiple<F: Field>(
 )
     requires ordered { from ≤ to }
     requires within { (to ≤ length numbers.old) × (to ≤ length others.now) }
-    ensures { Rewritten (plus (arithmetic field.now) factor others.now numbers.old) from to numbers.old numbers.new }
+    ensures { Rewritten (plus (F.Field.arithmetic field.now) factor others.now numbers.old) from to numbers.old numbers.new }
 {
     for k in from..to {
         numbers[k] = field.add(numbers[k], field.multiply(factor, others[k]));
@@ -31,7 +31,7 @@ pub(crate) fn multiply_all<F: Field>(
 )
     requires ordered { from ≤ to }
     requires within { to ≤ length numbers.old }
-    ensures { Rewritten (times (arithmetic field.now) factor numbers.old) from to numbers.old numbers.new }
+    ensures { Rewritten (times (F.Field.arithmetic field.now) factor numbers.old) from to numbers.old numbers.new }
 {
     for k in from..to {
         numbers[k] = field.multiply(factor, numbers[k]);
@@ -40,7 +40,7 @@ pub(crate) fn multiply_all<F: Field>(
 
 pub(crate) fn negate_all<F: Field>(field: &F, numbers: &mut [u32], to: usize)
     requires { to ≤ length numbers.old }
-    ensures { Rewritten (negated (arithmetic field.now) numbers.old) 0 to numbers.old numbers.new }
+    ensures { Rewritten (negated (F.Field.arithmetic field.now) numbers.old) 0 to numbers.old numbers.new }
 {
     for k in 0..to {
         numbers[k] = field.negate(numbers[k]);
@@ -50,7 +50,7 @@ pub(crate) fn negate_all<F: Field>(field: &F, numbers: &mut [u32], to: usize)
 // Whether each of the first numbers stands for zero.
 pub(crate) fn all_zero<F: Field>(field: &F, numbers: &[u32], to: usize) -> bool
     requires { to ≤ length numbers.now }
-    ensures { Zeros (arithmetic field.now) to numbers.now result }
+    ensures { Zeros (F.Field.arithmetic field.now) to numbers.now result }
 {
     for k in 0..to {
         if field.add(numbers[k], 0) != 0 {

@@ -31,8 +31,8 @@ pub(crate) fn clear<F: Field>(
     column: usize,
 )
     requires { column < shape.unknowns }
-    ensures left { Rewritten (plus (arithmetic field.now) ((arithmetic field.now).neg (entry row.old.coefficients column)) pivot.now.coefficients row.old.coefficients) column shape.unknowns row.old.coefficients row.new.coefficients }
-    ensures right { Rewritten (plus (arithmetic field.now) ((arithmetic field.now).neg (entry row.old.coefficients column)) pivot.now.right_sides row.old.right_sides) 0 shape.right_sides row.old.right_sides row.new.right_sides }
+    ensures left { Rewritten (plus (F.Field.arithmetic field.now) ((F.Field.arithmetic field.now).neg (entry row.old.coefficients column)) pivot.now.coefficients row.old.coefficients) column shape.unknowns row.old.coefficients row.new.coefficients }
+    ensures right { Rewritten (plus (F.Field.arithmetic field.now) ((F.Field.arithmetic field.now).neg (entry row.old.coefficients column)) pivot.now.right_sides row.old.right_sides) 0 shape.right_sides row.old.right_sides row.new.right_sides }
 {
     let factor = field.negate(row.coefficients[column]);
     add_multiple(
@@ -61,8 +61,8 @@ pub(crate) fn scale<F: Field>(
     column: usize,
 )
     requires { column < shape.unknowns }
-    ensures left { Rewritten (times (arithmetic field.now) factor row.old.coefficients) column shape.unknowns row.old.coefficients row.new.coefficients }
-    ensures right { Rewritten (times (arithmetic field.now) factor row.old.right_sides) 0 shape.right_sides row.old.right_sides row.new.right_sides }
+    ensures left { Rewritten (times (F.Field.arithmetic field.now) factor row.old.coefficients) column shape.unknowns row.old.coefficients row.new.coefficients }
+    ensures right { Rewritten (times (F.Field.arithmetic field.now) factor row.old.right_sides) 0 shape.right_sides row.old.right_sides row.new.right_sides }
 {
     let unknowns = shape.unknowns() as usize;
     let right_sides = shape.right_sides() as usize;
@@ -72,7 +72,7 @@ pub(crate) fn scale<F: Field>(
 
 // What an equation tells of which nothing is left on the left: its right sides are zero too, or nothing satisfies it.
 pub(crate) fn leftover<F: Field>(field: &F, shape: Shape, row: &Equation) -> Inserted
-    ensures { Leftover (arithmetic field.now) shape.right_sides row.now result }
+    ensures { Leftover (F.Field.arithmetic field.now) shape.right_sides row.now result }
 {
     if all_zero(field, &row.right_sides, shape.right_sides() as usize) {
         Inserted::Redundant
@@ -84,7 +84,7 @@ pub(crate) fn leftover<F: Field>(field: &F, shape: Shape, row: &Equation) -> Ins
 // What a form tells that is cleared at every column that has a row: where nothing is left of it, its values are the
 // negated right sides.
 pub(crate) fn reading<F: Field>(field: &F, shape: Shape, row: &Equation) -> Decision
-    ensures { Reading (arithmetic field.now) shape.unknowns shape.right_sides row.now result }
+    ensures { Reading (F.Field.arithmetic field.now) shape.unknowns shape.right_sides row.now result }
 {
     if !all_zero(field, &row.coefficients, shape.unknowns() as usize) {
         return Decision::Open;

@@ -1,4 +1,6 @@
 // Pools of presented cards: what they hold, and what their cards say of the key.
+#![tactic(auto)]
+
 mod card;
 pub mod judgement;
 pub mod pool;

@@ -1,4 +1,6 @@
 // Runs of whole trays, and what they report.
+#![tactic(auto)]
+
 mod key;
 mod opening;
 mod refused;

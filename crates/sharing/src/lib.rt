@@ -1,4 +1,6 @@
 // Recovery cards: who may open a drive, what the cards say, and what goes wrong with either.
+#![tactic(auto)]
+
 pub mod dealing;
 pub mod elements;
 pub mod examples;

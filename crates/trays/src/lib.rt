@@ -1,4 +1,6 @@
 // Trays: files of cards, and their reader.
+#![tactic(auto)]
+
 pub mod card;
 pub mod item;
 pub mod limits;

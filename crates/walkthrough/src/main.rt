@@ -1,5 +1,7 @@
 // Works through one real task from its beginning to its end, and prints what it does: the recovery cards of one drive,
 // which three directors can open, or ten directors and managers, or twenty of anybody; and a sitting that opens it.
+#![tactic(auto)]
+
 ghost use Rattle.std.specs.Prelude.{◌≡◌, length, replicate};
 
 use fields::prime::{WIDE_FIELD, WideModulus};

@@ -4,8 +4,8 @@ use Rattle.fields.specs.ByteLaws.{multiply_below}
 use Rattle.fields.proofs.Products.{products}
 use Rattle.fields.proofs.byte.byte_product.Goals as goal
 
-pub overflow-cast-result : goal.overflow-cast-result
-overflow-cast-result c =
+pub overflow_cast-result : goal.overflow_cast-result
+overflow_cast-result c =
     let h : c.multiply.result < 256 = subst (λ (r : ℕ). r < 256) (sym c.multiply.ensures) (multiply_below _ _) in
     search rules
 

@@ -12,9 +12,9 @@ returns g c =
       in_any_order = λ others same. decides_order _ _ _ c.args.equations.now others same c.args.form.now _ right;
     }
 
-pub returns-in-default : goal.returns-in-default
-returns-in-default g c =
-    let right : NoSolution (g.F.Field.arithmetic c.args.field.now) c.args.shape.unknowns c.args.shape.right_sides c.args.equations.now = λ x s. c.in-default.ensures x s.satisfies in
+pub returns-in_default : goal.returns-in_default
+returns-in_default g c =
+    let right : NoSolution (g.F.Field.arithmetic c.args.field.now) c.args.shape.unknowns c.args.shape.right_sides c.args.equations.now = λ x s. c.in_default.ensures x s.satisfies in
     record {
       right = right;
       only = λ d other. decides_unique _ (g.met.F.Field.lawful _) _ _ _ c.args.form.now c.args.shape.some_right_sides d Contradictory other right;

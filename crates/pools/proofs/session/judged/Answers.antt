@@ -27,7 +27,7 @@ said n m w j k rest P key e long h =
 pub returns-in-Key : goal.returns-in-Key
 returns-in-Key g c =
     let pool = c.args.pool.now in
-    let n = c.args.key-length in
+    let n = c.args.key_length in
     let zeros : List ℕ = replicate 16 0 in
     let m = length (take (n - 0) zeros) in
     let long : m ≡ n = length-take-le (n - 0) zeros (omega arith) ∙ omega arith in

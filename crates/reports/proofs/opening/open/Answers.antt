@@ -12,14 +12,14 @@ use Rattle.reports.proofs.Openings.{at_place, field_read, thresholds_read, words
 use Rattle.trays.proofs.Orders.{reader_one_way}
 use Rattle.reports.proofs.opening.open.Goals as goal
 
-pub returns-in-err-field : goal.returns-in-err-field
-returns-in-err-field c =
+pub returns-in_err-field : goal.returns-in_err-field
+returns-in_err-field c =
     let t = c.next.new.self in
-    let p = err_from_is_err_and c.from-residual.result c.from-residual.ensures.1 in
+    let p = err_from_is_err_and c.from_residual.result c.from_residual.ensures.1 in
     record {
       parts = λ parts e r.
-          let none = fault_said c.args.reader.now t c.in-err-field.field-0.0 c.in-err-field.ensures.reads parts e r in
-          subst (λ x. OpensTo x t parts e) (sym p.1) (early [] parts e c.in-err-field.field-0.0 p.0 none.0 (omega arith) tt none.1 p.2);
+          let none = fault_said c.args.reader.now t c.in_err-field.field-0.0 c.in_err-field.ensures.reads parts e r in
+          subst (λ x. OpensTo x t parts e) (sym p.1) (early [] parts e c.in_err-field.field-0.0 p.0 none.0 (omega arith) tt none.1 p.2);
       ready = subst (λ x. ReadyTo x t) (sym p.1) tt;
     }
 
@@ -27,144 +27,144 @@ pub unreachable-requires : goal.unreachable-requires
 unreachable-requires c =
     let all = reader_one_way c.args.reader.now in
     let whole = c.requires all.0 all.1 all.2 in
-    let f = field_read c.next.new.self c.in-ok-field.field-0 whole.1 (c.in-ok-field.ensures.reads all.0 all.1 all.2) in
-    c.in-default.not-Field f.code f.is
+    let f = field_read c.next.new.self c.in_ok-field.field-0 whole.1 (c.in_ok-field.ensures.reads all.0 all.1 all.2) in
+    c.in_default.not-Field f.code f.is
 
-pub returns-in-err-bytes : goal.returns-in-err-bytes
-returns-in-err-bytes c =
+pub returns-in_err-bytes : goal.returns-in_err-bytes
+returns-in_err-bytes c =
     let t = c.next-2.new.self in
-    let p = err_from_is_err_and c.from-residual-in-err-bytes.result c.from-residual-in-err-bytes.ensures.1 in
+    let p = err_from_is_err_and c.from_residual-in_err-bytes.result c.from_residual-in_err-bytes.ensures.1 in
     record {
       parts = λ parts e r.
-          let f = field_read c.next.new.self c.in-ok-field.field-0 (c.requires parts e r).1 (c.in-ok-field.ensures.reads parts e r) in
-          let none = fault_said c.next.new.self t c.in-err-bytes.field-0.0 c.in-err-bytes.ensures.reads f.others e f.left in
+          let f = field_read c.next.new.self c.in_ok-field.field-0 (c.requires parts e r).1 (c.in_ok-field.ensures.reads parts e r) in
+          let none = fault_said c.next.new.self t c.in_err-bytes.field-0.0 c.in_err-bytes.ensures.reads f.others e f.left in
           let first = at_place (field f.code) 0 in
-          subst (λ x. OpensTo x t parts e) (sym p.1) (early (first ∷ []) parts e c.in-err-bytes.field-0.0 p.0 (f.parts_are ∙ ap (λ ps. first ∷ ps) none.0) (omega arith) (refl, tt) none.1 p.2);
+          subst (λ x. OpensTo x t parts e) (sym p.1) (early (first ∷ []) parts e c.in_err-bytes.field-0.0 p.0 (f.parts_are ∙ ap (λ ps. first ∷ ps) none.0) (omega arith) (refl, tt) none.1 p.2);
       ready = subst (λ x. ReadyTo x t) (sym p.1) tt;
     }
 
-pub unreachable-requires-in-default-2 : goal.unreachable-requires-in-default-2
-unreachable-requires-in-default-2 c =
+pub unreachable-requires-in_default-2 : goal.unreachable-requires-in_default-2
+unreachable-requires-in_default-2 c =
     let all = reader_one_way c.args.reader.now in
     let whole = c.requires all.0 all.1 all.2 in
-    let f = field_read c.next.new.self c.in-ok-field.field-0 whole.1 (c.in-ok-field.ensures.reads all.0 all.1 all.2) in
-    let l = thresholds_read c.next-2.new.self c.in-ok-bytes.field-0 f.reads (c.in-ok-bytes.ensures.reads f.others all.1 f.left) in
-    c.in-default-2.not-Thresholds l.levels _ l.is
+    let f = field_read c.next.new.self c.in_ok-field.field-0 whole.1 (c.in_ok-field.ensures.reads all.0 all.1 all.2) in
+    let l = thresholds_read c.next-2.new.self c.in_ok-bytes.field-0 f.reads (c.in_ok-bytes.ensures.reads f.others all.1 f.left) in
+    c.in_default-2.not-Thresholds l.levels _ l.is
 
-pub policy-at-requires : goal.policy-at-requires
-policy-at-requires c =
+pub policy_at-requires : goal.policy_at-requires
+policy_at-requires c =
     let all = reader_one_way c.args.reader.now in
     let whole = c.requires all.0 all.1 all.2 in
-    let f = field_read c.next.new.self c.in-ok-field.field-0 whole.1 (c.in-ok-field.ensures.reads all.0 all.1 all.2) in
-    let l = thresholds_read c.next-2.new.self c.in-ok-bytes.field-0 f.reads (c.in-ok-bytes.ensures.reads f.others all.1 f.left) in
-    let same = one_thresholds c.in-ok-bytes.field-0 l.levels c.in-Thresholds.bytes (0 + 1 + 1) c.in-Thresholds.offset l.is c.in-Thresholds.is in
+    let f = field_read c.next.new.self c.in_ok-field.field-0 whole.1 (c.in_ok-field.ensures.reads all.0 all.1 all.2) in
+    let l = thresholds_read c.next-2.new.self c.in_ok-bytes.field-0 f.reads (c.in_ok-bytes.ensures.reads f.others all.1 f.left) in
+    let same = one_thresholds c.in_ok-bytes.field-0 l.levels c.in-Thresholds.bytes (0 + 1 + 1) c.in-Thresholds.offset l.is c.in-Thresholds.is in
     omega (arith, same.1)
 
-pub returns-in-err-policy : goal.returns-in-err-policy
-returns-in-err-policy c =
+pub returns-in_err-policy : goal.returns-in_err-policy
+returns-in_err-policy c =
     let t = c.next-2.new.self in
-    let p = err_from_is_err_and c.from-residual-in-err-policy.result c.from-residual-in-err-policy.ensures.1 in
-    let bad = c.in-err-policy.ensures in
+    let p = err_from_is_err_and c.from_residual-in_err-policy.result c.from_residual-in_err-policy.ensures.1 in
+    let bad = c.in_err-policy.ensures in
     record {
       parts = λ parts e r.
-          let f = field_read c.next.new.self c.in-ok-field.field-0 (c.requires parts e r).1 (c.in-ok-field.ensures.reads parts e r) in
-          let l = thresholds_read t c.in-ok-bytes.field-0 f.reads (c.in-ok-bytes.ensures.reads f.others e f.left) in
-          let same = one_thresholds c.in-ok-bytes.field-0 l.levels c.in-Thresholds.bytes (0 + 1 + 1) c.in-Thresholds.offset l.is c.in-Thresholds.is in
+          let f = field_read c.next.new.self c.in_ok-field.field-0 (c.requires parts e r).1 (c.in_ok-field.ensures.reads parts e r) in
+          let l = thresholds_read t c.in_ok-bytes.field-0 f.reads (c.in_ok-bytes.ensures.reads f.others e f.left) in
+          let same = one_thresholds c.in_ok-bytes.field-0 l.levels c.in-Thresholds.bytes (0 + 1 + 1) c.in-Thresholds.offset l.is c.in-Thresholds.is in
           let less : c.in-Thresholds.offset - 1 ≡ 0 + 1 = omega (arith, same.1) in
-          let stop = subst (λ at. Stops bad.0 layer.Policy at c.in-err-policy.field-0.0) less bad.2 in
+          let stop = subst (λ at. Stops bad.0 layer.Policy at c.in_err-policy.field-0.0) less bad.2 in
           subst (λ x. OpensTo x t parts e) (sym p.1)
           (misfit (at_place (field f.code) 0) (0 + 1) bad.0 l.levels.now parts f.others l.others e p.0 f.parts_are l.parts-are
           (ap refuses_policy same.0 ∙ bad.1) (subst (λ s. Stops bad.0 layer.Policy (0 + 1) s) (sym p.2) stop));
       ready = subst (λ x. ReadyTo x t) (sym p.1) tt;
     }
 
-pub returns-in-err-words : goal.returns-in-err-words
-returns-in-err-words c =
+pub returns-in_err-words : goal.returns-in_err-words
+returns-in_err-words c =
     let t = c.next-3.new.self in
-    let p = err_from_is_err_and c.from-residual-in-err-words.result c.from-residual-in-err-words.ensures.1 in
+    let p = err_from_is_err_and c.from_residual-in_err-words.result c.from_residual-in_err-words.ensures.1 in
     record {
       parts = λ parts e r.
-          let f = field_read c.next.new.self c.in-ok-field.field-0 (c.requires parts e r).1 (c.in-ok-field.ensures.reads parts e r) in
-          let l = thresholds_read c.next-2.new.self c.in-ok-bytes.field-0 f.reads (c.in-ok-bytes.ensures.reads f.others e f.left) in
-          let same = one_thresholds c.in-ok-bytes.field-0 l.levels c.in-Thresholds.bytes (0 + 1 + 1) c.in-Thresholds.offset l.is c.in-Thresholds.is in
-          let none = fault_said c.next-2.new.self t c.in-err-words.field-0.0 c.in-err-words.ensures.reads l.others e l.left in
+          let f = field_read c.next.new.self c.in_ok-field.field-0 (c.requires parts e r).1 (c.in_ok-field.ensures.reads parts e r) in
+          let l = thresholds_read c.next-2.new.self c.in_ok-bytes.field-0 f.reads (c.in_ok-bytes.ensures.reads f.others e f.left) in
+          let same = one_thresholds c.in_ok-bytes.field-0 l.levels c.in-Thresholds.bytes (0 + 1 + 1) c.in-Thresholds.offset l.is c.in-Thresholds.is in
+          let none = fault_said c.next-2.new.self t c.in_err-words.field-0.0 c.in_err-words.ensures.reads l.others e l.left in
           let first = at_place (field f.code) 0 in
           let second = at_place (thresholds l.levels.now) (0 + 1) in
           subst (λ x. OpensTo x t parts e) (sym p.1)
-          (early (first ∷ second ∷ []) parts e c.in-err-words.field-0.0 p.0
+          (early (first ∷ second ∷ []) parts e c.in_err-words.field-0.0 p.0
           (f.parts_are ∙ ap (λ ps. first ∷ ps) (l.parts-are ∙ ap (λ ps. second ∷ ps) none.0))
-          (omega arith) (refl, (ap refuses_policy same.0 ∙ c.in-ok-policy.ensures.1, tt)) none.1 p.2);
+          (omega arith) (refl, (ap refuses_policy same.0 ∙ c.in_ok-policy.ensures.1, tt)) none.1 p.2);
       ready = subst (λ x. ReadyTo x t) (sym p.1) tt;
     }
 
-pub unreachable-requires-in-default-3 : goal.unreachable-requires-in-default-3
-unreachable-requires-in-default-3 c =
+pub unreachable-requires-in_default-3 : goal.unreachable-requires-in_default-3
+unreachable-requires-in_default-3 c =
     let all = reader_one_way c.args.reader.now in
     let whole = c.requires all.0 all.1 all.2 in
-    let f = field_read c.next.new.self c.in-ok-field.field-0 whole.1 (c.in-ok-field.ensures.reads all.0 all.1 all.2) in
-    let l = thresholds_read c.next-2.new.self c.in-ok-bytes.field-0 f.reads (c.in-ok-bytes.ensures.reads f.others all.1 f.left) in
-    let w = words_read c.next-3.new.self c.in-ok-words.field-0 l.reads (c.in-ok-words.ensures.reads l.others all.1 l.left) in
-    c.in-default-3.not-Words w.count w.is
+    let f = field_read c.next.new.self c.in_ok-field.field-0 whole.1 (c.in_ok-field.ensures.reads all.0 all.1 all.2) in
+    let l = thresholds_read c.next-2.new.self c.in_ok-bytes.field-0 f.reads (c.in_ok-bytes.ensures.reads f.others all.1 f.left) in
+    let w = words_read c.next-3.new.self c.in_ok-words.field-0 l.reads (c.in_ok-words.ensures.reads l.others all.1 l.left) in
+    c.in_default-3.not-Words w.count w.is
 
-pub word-count-words-requires : goal.word-count-words-requires
-word-count-words-requires c =
+pub word_count-words-requires : goal.word_count-words-requires
+word_count-words-requires c =
     let all = reader_one_way c.args.reader.now in
     let whole = c.requires all.0 all.1 all.2 in
-    let f = field_read c.next.new.self c.in-ok-field.field-0 whole.1 (c.in-ok-field.ensures.reads all.0 all.1 all.2) in
-    let l = thresholds_read c.next-2.new.self c.in-ok-bytes.field-0 f.reads (c.in-ok-bytes.ensures.reads f.others all.1 f.left) in
-    let w = words_read c.next-3.new.self c.in-ok-words.field-0 l.reads (c.in-ok-words.ensures.reads l.others all.1 l.left) in
-    let same = one_words c.in-ok-words.field-0 w.count c.in-Words.words w.is c.in-Words.is in
+    let f = field_read c.next.new.self c.in_ok-field.field-0 whole.1 (c.in_ok-field.ensures.reads all.0 all.1 all.2) in
+    let l = thresholds_read c.next-2.new.self c.in_ok-bytes.field-0 f.reads (c.in_ok-bytes.ensures.reads f.others all.1 f.left) in
+    let w = words_read c.next-3.new.self c.in_ok-words.field-0 l.reads (c.in_ok-words.ensures.reads l.others all.1 l.left) in
+    let same = one_words c.in_ok-words.field-0 w.count c.in-Words.words w.is c.in-Words.is in
     (omega (arith, w.low, same), omega (arith, w.high, same))
 
-pub returns-in-err-cards : goal.returns-in-err-cards
-returns-in-err-cards c =
+pub returns-in_err-cards : goal.returns-in_err-cards
+returns-in_err-cards c =
     let t = c.next-4.new.self in
-    let p = err_from_is_err_and c.from-residual-in-err-cards.result c.from-residual-in-err-cards.ensures.1 in
+    let p = err_from_is_err_and c.from_residual-in_err-cards.result c.from_residual-in_err-cards.ensures.1 in
     record {
       parts = λ parts e r.
-          let f = field_read c.next.new.self c.in-ok-field.field-0 (c.requires parts e r).1 (c.in-ok-field.ensures.reads parts e r) in
-          let l = thresholds_read c.next-2.new.self c.in-ok-bytes.field-0 f.reads (c.in-ok-bytes.ensures.reads f.others e f.left) in
-          let w = words_read c.next-3.new.self c.in-ok-words.field-0 l.reads (c.in-ok-words.ensures.reads l.others e l.left) in
-          let same = one_thresholds c.in-ok-bytes.field-0 l.levels c.in-Thresholds.bytes (0 + 1 + 1) c.in-Thresholds.offset l.is c.in-Thresholds.is in
-          let none = fault_said c.next-3.new.self t c.in-err-cards.field-0.0 c.in-err-cards.ensures.reads w.others e w.left in
+          let f = field_read c.next.new.self c.in_ok-field.field-0 (c.requires parts e r).1 (c.in_ok-field.ensures.reads parts e r) in
+          let l = thresholds_read c.next-2.new.self c.in_ok-bytes.field-0 f.reads (c.in_ok-bytes.ensures.reads f.others e f.left) in
+          let w = words_read c.next-3.new.self c.in_ok-words.field-0 l.reads (c.in_ok-words.ensures.reads l.others e l.left) in
+          let same = one_thresholds c.in_ok-bytes.field-0 l.levels c.in-Thresholds.bytes (0 + 1 + 1) c.in-Thresholds.offset l.is c.in-Thresholds.is in
+          let none = fault_said c.next-3.new.self t c.in_err-cards.field-0.0 c.in_err-cards.ensures.reads w.others e w.left in
           let first = at_place (field f.code) 0 in
           let second = at_place (thresholds l.levels.now) (0 + 1) in
           let third = at_place (words w.count) (0 + 1 + length (written (thresholds l.levels.now))) in
           subst (λ x. OpensTo x t parts e) (sym p.1)
-          (early (first ∷ second ∷ third ∷ []) parts e c.in-err-cards.field-0.0 p.0
+          (early (first ∷ second ∷ third ∷ []) parts e c.in_err-cards.field-0.0 p.0
           (f.parts_are ∙ ap (λ ps. first ∷ ps) (l.parts-are ∙ ap (λ ps. second ∷ ps) (w.parts-are ∙ ap (λ ps. third ∷ ps) none.0)))
-          (omega arith) (refl, (ap refuses_policy same.0 ∙ c.in-ok-policy.ensures.1, (refl, tt))) none.1 p.2);
+          (omega arith) (refl, (ap refuses_policy same.0 ∙ c.in_ok-policy.ensures.1, (refl, tt))) none.1 p.2);
       ready = subst (λ x. ReadyTo x t) (sym p.1) tt;
     }
 
-pub unreachable-requires-in-default-4 : goal.unreachable-requires-in-default-4
-unreachable-requires-in-default-4 c =
+pub unreachable-requires-in_default-4 : goal.unreachable-requires-in_default-4
+unreachable-requires-in_default-4 c =
     let all = reader_one_way c.args.reader.now in
     let whole = c.requires all.0 all.1 all.2 in
-    let f = field_read c.next.new.self c.in-ok-field.field-0 whole.1 (c.in-ok-field.ensures.reads all.0 all.1 all.2) in
-    let l = thresholds_read c.next-2.new.self c.in-ok-bytes.field-0 f.reads (c.in-ok-bytes.ensures.reads f.others all.1 f.left) in
-    let w = words_read c.next-3.new.self c.in-ok-words.field-0 l.reads (c.in-ok-words.ensures.reads l.others all.1 l.left) in
-    let n = count_read c.next-4.new.self c.in-ok-cards.field-0 w.reads (c.in-ok-cards.ensures.reads w.others all.1 w.left) in
-    c.in-default-4.not-CardCount n.count n.is
+    let f = field_read c.next.new.self c.in_ok-field.field-0 whole.1 (c.in_ok-field.ensures.reads all.0 all.1 all.2) in
+    let l = thresholds_read c.next-2.new.self c.in_ok-bytes.field-0 f.reads (c.in_ok-bytes.ensures.reads f.others all.1 f.left) in
+    let w = words_read c.next-3.new.self c.in_ok-words.field-0 l.reads (c.in_ok-words.ensures.reads l.others all.1 l.left) in
+    let n = count_read c.next-4.new.self c.in_ok-cards.field-0 w.reads (c.in_ok-cards.ensures.reads w.others all.1 w.left) in
+    c.in_default-4.not-CardCount n.count n.is
 
 pub returns : goal.returns
 returns c =
     let t = c.next-4.new.self in
     record {
       parts = λ parts e r.
-          let f = field_read c.next.new.self c.in-ok-field.field-0 (c.requires parts e r).1 (c.in-ok-field.ensures.reads parts e r) in
-          let l = thresholds_read c.next-2.new.self c.in-ok-bytes.field-0 f.reads (c.in-ok-bytes.ensures.reads f.others e f.left) in
-          let w = words_read c.next-3.new.self c.in-ok-words.field-0 l.reads (c.in-ok-words.ensures.reads l.others e l.left) in
-          let n = count_read t c.in-ok-cards.field-0 w.reads (c.in-ok-cards.ensures.reads w.others e w.left) in
-          let policy = c.in-ok-policy.ensures in
-          let code = one_field c.in-ok-field.field-0 f.code c.in-Field.field f.is c.in-Field.is in
-          let levels = one_thresholds c.in-ok-bytes.field-0 l.levels c.in-Thresholds.bytes (0 + 1 + 1) c.in-Thresholds.offset l.is c.in-Thresholds.is in
-          let count = one_words c.in-ok-words.field-0 w.count c.in-Words.words w.is c.in-Words.is in
-          let cards = one_count c.in-ok-cards.field-0 n.count c.in-CardCount.cards n.is c.in-CardCount.is in (
+          let f = field_read c.next.new.self c.in_ok-field.field-0 (c.requires parts e r).1 (c.in_ok-field.ensures.reads parts e r) in
+          let l = thresholds_read c.next-2.new.self c.in_ok-bytes.field-0 f.reads (c.in_ok-bytes.ensures.reads f.others e f.left) in
+          let w = words_read c.next-3.new.self c.in_ok-words.field-0 l.reads (c.in_ok-words.ensures.reads l.others e l.left) in
+          let n = count_read t c.in_ok-cards.field-0 w.reads (c.in_ok-cards.ensures.reads w.others e w.left) in
+          let policy = c.in_ok-policy.ensures in
+          let code = one_field c.in_ok-field.field-0 f.code c.in-Field.field f.is c.in-Field.is in
+          let levels = one_thresholds c.in_ok-bytes.field-0 l.levels c.in-Thresholds.bytes (0 + 1 + 1) c.in-Thresholds.offset l.is c.in-Thresholds.is in
+          let count = one_words c.in_ok-words.field-0 w.count c.in-Words.words w.is c.in-Words.is in
+          let cards = one_count c.in_ok-cards.field-0 n.count c.in-CardCount.cards n.is c.in-CardCount.is in (
             n.others,
             record {
               parts_are = opens f.code l.levels.now w.count n.count parts f.others l.others w.others n.others f.parts_are l.parts-are w.parts-are n.parts_are
-                  ∙ reopened f.code c.in-Field.field l.levels.now (levels-of c.in-ok-policy.policy) w.count (words_of c.word-count-words.result) n.count c.in-CardCount.cards n.others code (levels.0 ∙ sym policy.0) (count ∙ sym c.word-count-words.ensures) cards;
+                  ∙ reopened f.code c.in-Field.field l.levels.now (levels-of c.in_ok-policy.policy) w.count (words_of c.word_count-words.result) n.count c.in-CardCount.cards n.others code (levels.0 ∙ sym policy.0) (count ∙ sym c.word_count-words.ensures) cards;
               fits = ap refuses_policy policy.0 ∙ policy.1;
               left = n.left;
             },
@@ -172,11 +172,11 @@ returns c =
       ready = λ ps e r.
           let all = reader_one_way c.args.reader.now in
           let whole = c.requires all.0 all.1 all.2 in
-          let f = field_read c.next.new.self c.in-ok-field.field-0 whole.1 (c.in-ok-field.ensures.reads all.0 all.1 all.2) in
-          let l = thresholds_read c.next-2.new.self c.in-ok-bytes.field-0 f.reads (c.in-ok-bytes.ensures.reads f.others all.1 f.left) in
-          let w = words_read c.next-3.new.self c.in-ok-words.field-0 l.reads (c.in-ok-words.ensures.reads l.others all.1 l.left) in
-          let n = count_read t c.in-ok-cards.field-0 w.reads (c.in-ok-cards.ensures.reads w.others all.1 w.left) in
-          let count = one_words c.in-ok-words.field-0 w.count c.in-Words.words w.is c.in-Words.is in
-          let cards = one_count c.in-ok-cards.field-0 n.count c.in-CardCount.cards n.is c.in-CardCount.is in
-          coming t w.count (words_of c.word-count-words.result) n.count c.in-CardCount.cards _ n.bytes ps n.others e all.1 r n.left n.reads (count ∙ sym c.word-count-words.ensures) cards;
+          let f = field_read c.next.new.self c.in_ok-field.field-0 whole.1 (c.in_ok-field.ensures.reads all.0 all.1 all.2) in
+          let l = thresholds_read c.next-2.new.self c.in_ok-bytes.field-0 f.reads (c.in_ok-bytes.ensures.reads f.others all.1 f.left) in
+          let w = words_read c.next-3.new.self c.in_ok-words.field-0 l.reads (c.in_ok-words.ensures.reads l.others all.1 l.left) in
+          let n = count_read t c.in_ok-cards.field-0 w.reads (c.in_ok-cards.ensures.reads w.others all.1 w.left) in
+          let count = one_words c.in_ok-words.field-0 w.count c.in-Words.words w.is c.in-Words.is in
+          let cards = one_count c.in_ok-cards.field-0 n.count c.in-CardCount.cards n.is c.in-CardCount.is in
+          coming t w.count (words_of c.word_count-words.result) n.count c.in-CardCount.cards _ n.bytes ps n.others e all.1 r n.left n.reads (count ∙ sym c.word_count-words.ensures) cards;
     }

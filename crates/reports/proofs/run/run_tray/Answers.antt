@@ -5,17 +5,17 @@ use Rattle.reports.specs.Runs.{stopped_early, turned_card}
 use Rattle.reports.proofs.Runs.{reports, named_bytes, named_wide}
 use Rattle.reports.proofs.run.run_tray.Goals as goal
 
-pub returns-then-names-bytes : goal.returns-then-names-bytes
-returns-then-names-bytes c parts e r =
+pub returns-then-names_bytes : goal.returns-then-names_bytes
+returns-then-names_bytes c parts e r =
     let found = c.in-Ok.ensures.parts parts e ((c.new-reader.ensures.starts parts e).1 r) in
-    reports bytes c.in-Ok.opening c.open.new.reader parts e found.0 c.run-cards.result (named_bytes c.in-Ok.opening.field (sym c.names-bytes.ensures ∙ c.if-names-bytes.true)) found.1
-    c.run-cards.ensures.header (c.run-cards.ensures.refusals found.0 e found.1.left) (c.run-cards.ensures.concludes found.0 e found.1.left)
+    reports bytes c.in-Ok.opening c.open.new.reader parts e found.0 c.run_cards.result (named_bytes c.in-Ok.opening.field (sym c.names_bytes.ensures ∙ c.if-names_bytes.true)) found.1
+    c.run_cards.ensures.header (c.run_cards.ensures.refusals found.0 e found.1.left) (c.run_cards.ensures.concludes found.0 e found.1.left)
 
-pub returns-else-names-bytes : goal.returns-else-names-bytes
-returns-else-names-bytes c parts e r =
+pub returns-else-names_bytes : goal.returns-else-names_bytes
+returns-else-names_bytes c parts e r =
     let found = c.in-Ok.ensures.parts parts e ((c.new-reader.ensures.starts parts e).1 r) in
-    let run = c.run-cards-else-names-bytes in
-    reports wide c.in-Ok.opening c.open.new.reader parts e found.0 run.result (named_wide c.in-Ok.opening.field (sym c.names-bytes.ensures ∙ c.if-names-bytes.false)) found.1
+    let run = c.run_cards-else-names_bytes in
+    reports wide c.in-Ok.opening c.open.new.reader parts e found.0 run.result (named_wide c.in-Ok.opening.field (sym c.names_bytes.ensures ∙ c.if-names_bytes.false)) found.1
     run.ensures.header (run.ensures.refusals found.0 e found.1.left) (run.ensures.concludes found.0 e found.1.left)
 
 pub returns-in-Err : goal.returns-in-Err

@@ -27,7 +27,7 @@ loop-i-preserved c =
     let a = c.args.a % 256 in
     let b = c.args.b % 256 in
     let inv = c.loop-i.invariant in
-    let again = c.times-x-shifted.ensures in (
+    let again = c.times_x-shifted.ensures in (
       again ∙ ap xtime inv.0 ∙ sym (shifted_next i a),
       elim c.if-bits-i-eq1.branch [
         | then-bits-i-eq1 w ↦ w.product-is ∙ ap₂ bit_xor inv.1 inv.0 ∙ sym (product_next i a b 1 w.if-bits-i-eq1.true)

@@ -6,7 +6,7 @@ use Rattle.linear.proofs.Reading.{slot_of}
 use Rattle.linear.proofs.Steps.{reduced_cleared}
 use Rattle.linear.proofs.Answering.{entry_zeros, tells}
 use Rattle.linear.proofs.echelon.Echelon.decide.Goals as goal
-use Rattle.linear.proofs.echelon.Echelon.decide.Goals.{in-Some, in-default}
+use Rattle.linear.proofs.echelon.Echelon.decide.Goals.{in-Some, in_default}
 
 pub loop-column-init : goal.loop-column-init
 loop-column-init g c =
@@ -24,7 +24,7 @@ loop-column-preserved g c =
             reduced_cleared _ _ _ _ _ c.homogeneous-row.result c.requires c.loop-column.row p (omega arith) v.in-Some.pivot v.clear.new.row (stands ∙ v.in-Some.is) v.clear.ensures.left v.clear.ensures.right i.0,
             λ j l. v.clear.ensures.right.above j l ∙ i.1 j l,
           )
-      | in-default v ↦ rw v.row-is (reduced_skip _ _ _ _ p _ (omega arith) (ap (slot_of _ _) (stands ∙ v.in-default.is)) i.0, i.1)
+      | in_default v ↦ rw v.row-is (reduced_skip _ _ _ _ p _ (omega arith) (ap (slot_of _ _) (stands ∙ v.in_default.is)) i.0, i.1)
     ]
 
 pub returns : goal.returns

@@ -8,7 +8,7 @@ loop-equation-init g c = rw c.empty-echelon.ensures (stands_none _ _ _ 32 c.args
 pub loop-equation-preserved : goal.loop-equation-preserved
 loop-equation-preserved g c =
     stands_more _ _ _ c.args.equations.now c.loop-equation.equation-index c.loop-equation-test.true c.equation-item.result c.equation-item.is _ c.loop-equation.invariant _
-    (not_contradictory _ _ _ _ c.equation-item.result _ c.insert.result c.insert.ensures c.in-default.not-Contradictory)
+    (not_contradictory _ _ _ _ c.equation-item.result _ c.insert.result c.insert.ensures c.in_default.not-Contradictory)
 
 pub returns : goal.returns
 returns g c = rw (take_all _ _ c.loop-equation-test.false) at c.loop-equation.invariant

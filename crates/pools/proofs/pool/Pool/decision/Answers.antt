@@ -17,7 +17,7 @@ returns g c =
     let w = words_of pool.words in
     let held = view w pool.len pool.cards in
     let es = c.equations-equations.result in
-    let form = c.key-form-form.result in
+    let form = c.key_form-form.result in
     let d = c.decide.result in
     let shape = c.in-Some.shape in
     let unknowns = c.in-Some.ensures.0 ∙ c.top-top.ensures.last in
@@ -28,5 +28,5 @@ returns g c =
     subst (λ (t : ℕ). Decides F t w (take pool.len es) form d) unknowns
     (subst (λ (m : ℕ). Decides F shape.unknowns m (take pool.len es) form d) sides
     (subst (λ (n : ℕ). Decides F shape.unknowns shape.right_sides (take n es) form d) all c.decide.ensures.right)) in
-    let key : ReadsKey (top ts) form = subst (λ (t : ℕ). ReadsKey t form) c.top-top.ensures.last c.key-form-form.ensures in
+    let key : ReadsKey (top ts) form = subst (λ (t : ℕ). ReadsKey t form) c.top-top.ensures.last c.key_form-form.ensures in
     judged F L ts w held (take pool.len es) form c.equations-equations.ensures.each (inside F w held long c.requires) long key (omega (arith, pool.words.some)) d decides

@@ -5,7 +5,7 @@ use Rattle.pools.proofs.pool.Pool.meets_policy.Goals as goal
 pub loop-level-preserved : goal.loop-level-preserved
 loop-level-preserved g c =
     let found = c.in-Some.ensures in
-    below_more _ _ c.loop-level.invariant (λ enough. omega (arith, found.1, c.up-to.ensures, c.if-up-to-threshold.false))
+    below_more _ _ c.loop-level.invariant (λ enough. omega (arith, found.1, c.up_to.ensures, c.if-up_to-threshold.false))
 
 pub returns : goal.returns
 returns g c = (

@@ -46,7 +46,7 @@ returns-in-Err g c =
     let card : Card = record { level = c.args.level; id = c.args.id; values = c.args.values.now } in
     let list : ℕ → CardList = λ n. record { held = s.held; turned = n } in
     let refused = c.in-Err.ensures in
-    let more : c.saturating-add-self.result ≡ min 65535 (s.turned + 1) = omega (arith, c.saturating-add-self.ensures) in
+    let more : c.saturating_add-self.result ≡ min 65535 (s.turned + 1) = omega (arith, c.saturating_add-self.ensures) in
     record {
       list = ap list more ∙ ap (presented (g.F.Field.arithmetic pool.field) (thresholds pool.policy) (words_of pool.words) s card) refused;
       frame = (refl, refl, refl);

@@ -29,17 +29,17 @@ only_room g c =
     right_id id F.size c.if-id-eq0.false (omega (arith, c.size.ensures, c.if-id-size.false)) in
     let level : leb (length (thresholds pool.policy)) c.args.level ≡ false =
     lt-leb _ _ (omega (arith, c.levels.ensures.count, c.if-level-levels.false)) in
-    let inside : any (λ v. leb F.size v) values ≡ false = sym c.if-any-outside.ensures in
+    let inside : any (λ v. leb F.size v) values ≡ false = sym c.if-any_outside.ensures in
     let new : holds id held ≡ false = sym c.if-holds.ensures in
     let long = length_view w pool.len pool.cards (omega arith) in
     rw (buffer, some_id, level, inside, new, long)
 
-pub returns-then-self-ge-MOST-CARDS : goal.returns-then-self-ge-MOST-CARDS
-returns-then-self-ge-MOST-CARDS g c =
-    let full : leb 64 c.args.self.now.len ≡ true = le-leb _ _ (omega (arith, c.if-self-ge-MOST-CARDS.true)) in
-    sym (only_room g (goal.at.returns-then-self-ge-MOST-CARDS g c).Else-holds ∙ rw full)
+pub returns-then-self-ge-MOST_CARDS : goal.returns-then-self-ge-MOST_CARDS
+returns-then-self-ge-MOST_CARDS g c =
+    let full : leb 64 c.args.self.now.len ≡ true = le-leb _ _ (omega (arith, c.if-self-ge-MOST_CARDS.true)) in
+    sym (only_room g (goal.at.returns-then-self-ge-MOST_CARDS g c).Else-holds ∙ rw full)
 
 pub returns : goal.returns
 returns g c =
-    let room : leb 64 c.args.self.now.len ≡ false = lt-leb _ _ (omega (arith, c.if-self-ge-MOST-CARDS.false)) in
+    let room : leb 64 c.args.self.now.len ≡ false = lt-leb _ _ (omega (arith, c.if-self-ge-MOST_CARDS.false)) in
     sym (only_room g (goal.at.returns g c).Else-holds ∙ rw room)

@@ -11,8 +11,8 @@ use Rattle.pools.proofs.pool.Pool.value_outside.Goals as goal
 cut : (p : ℕ → Bool) (xs : List ℕ) (n w : ℕ) (b : Bool) → n ≡ w → b ≡ any p (take (n - 0) xs) → any p (take w xs) ≡ b
 cut p xs n w b e h = let same : n - 0 ≡ w = omega arith in sym (h ∙ ap (λ (m : ℕ). any p (take m xs)) same)
 
-pub returns-then-any-outside : goal.returns-then-any-outside
-returns-then-any-outside g c =
+pub returns-then-any_outside : goal.returns-then-any_outside
+returns-then-any_outside g c =
     let pool = c.args.self.now in
     let F = g.F.Field.arithmetic pool.field in
     let w = words_of pool.words in
@@ -22,7 +22,7 @@ returns-then-any-outside g c =
     let out : Card → Bool = λ h. any (λ v. leb F.size v) h.values in
     let long = length_view w pool.len pool.cards (omega arith) in
     let seen : any (λ v. leb F.size v) (take w card.values) ≡ true =
-    cut (λ v. leb F.size v) card.values c.get-words.result w c.any-outside.result c.get-words.ensures.words c.any-outside.ensures ∙ c.if-any-outside.true in
+    cut (λ v. leb F.size v) card.values c.get-words.result w c.any_outside.result c.get-words.ensures.words c.any_outside.ensures ∙ c.if-any_outside.true in
     sym (any_here out (view w pool.len pool.cards) i c.loop-i.invariant (shown w d) (omega arith)
     (ap out (view_at w pool.len i pool.cards d c.loop-i-test.true (omega arith)) ∙ seen))
 
@@ -37,7 +37,7 @@ loop-i-preserved g c =
     let out : Card → Bool = λ h. any (λ v. leb F.size v) h.values in
     let long = length_view w pool.len pool.cards (omega arith) in
     let seen : any (λ v. leb F.size v) (take w card.values) ≡ false =
-    cut (λ v. leb F.size v) card.values c.get-words.result w c.any-outside.result c.get-words.ensures.words c.any-outside.ensures ∙ c.if-any-outside.false in
+    cut (λ v. leb F.size v) card.values c.get-words.result w c.any_outside.result c.get-words.ensures.words c.any_outside.ensures ∙ c.if-any_outside.false in
     any_next out (view w pool.len pool.cards) i c.loop-i.invariant (shown w d) (omega arith)
     (ap out (view_at w pool.len i pool.cards d c.loop-i-test.true (omega arith)) ∙ seen)
 

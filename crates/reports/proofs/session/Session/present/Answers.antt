@@ -25,15 +25,15 @@ returns-in-Err g c =
       counted = omega (arith, c.push.ensures.counted);
     }
 
-pub returns-in-default-present : goal.returns-in-default-present
-returns-in-default-present g c =
+pub returns-in_default-present : goal.returns-in_default-present
+returns-in_default-present g c =
     let pool = c.args.self.now.pool in
     let F = g.F.Field.arithmetic pool.field in
     let ts = thresholds pool.policy in
     let w = words_of pool.words in
     let is = presented_is c.args.words c.args.bytes.now c.in-Some.card.level c.in-Some.card.id c.in-Some.card.values c.in-Some.ensures in
     let why = told_held (c.args.index + 1) c.args.offset (refuses_card F ts w (card_list pool).held (card_in c.args.words c.args.bytes.now))
-    (c.in-default-present.ensures.answer ∙ ap (λ x. answer_of (refuses_card F ts w (card_list pool).held x)) is) in
+    (c.in_default-present.ensures.answer ∙ ap (λ x. answer_of (refuses_card F ts w (card_list pool).held x)) is) in
     let before = turned_by c.args.self.now.refused in
     record {
       list = c.present.ensures.list ∙ ap (λ x. step F ts w (card_list pool) (present x)) is;

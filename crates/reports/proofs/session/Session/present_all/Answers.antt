@@ -22,14 +22,14 @@ unreachable-requires g c =
     let all = reader_one_way c.args.reader.now in
     let so = c.loop-i.invariant.2 all.0 all.1 all.2 in
     let some : 1 ≤ c.args.cards - c.loop-i.i = omega (arith, c.loop-i-test.true) in
-    let found = card_next c.in-ok-bytes.field-0 so.to_come.2 some (c.in-ok-bytes.ensures.reads so.others all.1 so.left).0 in
-    c.in-default.not-Card found.0 found.1 found.2
+    let found = card_next c.in_ok-bytes.field-0 so.to_come.2 some (c.in_ok-bytes.ensures.reads so.others all.1 so.left).0 in
+    c.in_default.not-Card found.0 found.1 found.2
 
 pub present-requires : goal.present-requires
 present-requires g c =
     let all = reader_one_way c.args.reader.now in
     let so = c.loop-i.invariant.2 all.0 all.1 all.2 in
-    let is = card_said c.loop-i.reader c.next.new.self c.in-ok-bytes.field-0 c.in-Card.bytes c.in-Card.offset c.in-Card.is c.in-ok-bytes.ensures.reads so.others all.1 so.left in
+    let is = card_said c.loop-i.reader c.next.new.self c.in_ok-bytes.field-0 c.in-Card.bytes c.in-Card.offset c.in-Card.is c.in_ok-bytes.ensures.reads so.others all.1 so.left in
     record {
       words = (
         c.requires.words.0 ∙ ap words_of (sym c.loop-i.invariant.1.2),
@@ -58,8 +58,8 @@ loop-i-preserved g c =
       omega (arith, c.present.ensures.counted, c.loop-i.invariant.0),
       (new_frame.0 ∙ frame.0, new_frame.1 ∙ frame.1, new_frame.2 ∙ frame.2),
       λ ps e r.
-          so_far_more F ts w c.args.cards c.loop-i.i s (card_list c.present.new.self.pool) c.loop-i.self.refused c.present.new.self.refused c.loop-i.reader c.next.new.self ps e c.in-Card.bytes c.in-Card.offset c.in-ok-bytes.field-0
-          c.in-Card.is c.in-ok-bytes.ensures.reads
+          so_far_more F ts w c.args.cards c.loop-i.i s (card_list c.present.new.self.pool) c.loop-i.self.refused c.present.new.self.refused c.loop-i.reader c.next.new.self ps e c.in-Card.bytes c.in-Card.offset c.in_ok-bytes.field-0
+          c.in-Card.is c.in_ok-bytes.ensures.reads
           (c.present.ensures.list
           ∙ ap (λ x. step (arithmetic x) (thresholds now_pool.policy) (words_of now_pool.words) s (present card)) frame.0
           ∙ ap (λ x. step F (thresholds x) (words_of now_pool.words) s (present card)) frame.1
@@ -73,9 +73,9 @@ loop-i-preserved g c =
           (c.loop-i.invariant.2 ps e r),
     )
 
-pub unreachable-requires-in-default-2 : goal.unreachable-requires-in-default-2
-unreachable-requires-in-default-2 g c =
+pub unreachable-requires-in_default-2 : goal.unreachable-requires-in_default-2
+unreachable-requires-in_default-2 g c =
     let all = reader_one_way c.args.reader.now in
     let so = c.loop-i.invariant.2 all.0 all.1 all.2 in
     let none : c.args.cards - c.loop-i.i ≡ 0 = omega (arith, c.loop-i-test.false) in
-    c.in-default-2.not-End (end_next c.in-ok-next.field-0 so.to_come.2 none (c.in-ok-next.ensures.reads so.others all.1 so.left).0)
+    c.in_default-2.not-End (end_next c.in_ok-next.field-0 so.to_come.2 none (c.in_ok-next.ensures.reads so.others all.1 so.left).0)

@@ -23,7 +23,7 @@ returns g c =
     let ts = thresholds c.args.self.now.policy in
     let w = words_of c.args.self.now.words in
     let x = coefficients_of c.args.self.now in
-    let loaded = fit F ts w x c.in-ok-try-coefficients.ensures in
+    let loaded = fit F ts w x c.in_ok-try_coefficients.ensures in
     let found = c.in-Some.ensures in
     let many : length c.args.values.now ≡ w = c.if-values-get.false ∙ c.get.ensures.words in
     let buffer : not (eqb (length c.args.values.now) w) ≡ false = ap not (eq-eqb _ w many) in
@@ -33,4 +33,4 @@ returns g c =
     let tops = c.top-top.ensures.last in
     let long = loaded.long in
     let elements = loaded.elements in
-    record { answer = rw (long, elements, buffer, id, level); values = c.write-values.ensures ∙ same_values F x c.args.id _ w _ (top ts) _ (order ts c.args.level) many tops found.1 }
+    record { answer = rw (long, elements, buffer, id, level); values = c.write_values.ensures ∙ same_values F x c.args.id _ w _ (top ts) _ (order ts c.args.level) many tops found.1 }

@@ -3,8 +3,8 @@ use Rattle.sharing.specs.Policies.{thresholds}
 use Rattle.sharing.proofs.Rising.{ranged, at_most_top}
 use Rattle.sharing.proofs.policy.Policy.order.Goals as goal
 
-pub overflow-sub-result : goal.overflow-sub-result
-overflow-sub-result c =
+pub overflow_sub-result : goal.overflow_sub-result
+overflow_sub-result c =
     let found = c.in-Some.ensures in
     omega (arith, at_most_top (thresholds c.args.self.now) c.args.self.now.rising c.args.level found.0, found.1, c.top.ensures.last)
 

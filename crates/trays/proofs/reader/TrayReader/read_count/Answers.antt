@@ -5,10 +5,10 @@ use Rattle.trays.proofs.OneWay.{no_count}
 use Rattle.trays.proofs.Requests.{short, byte_said}
 use Rattle.trays.proofs.reader.TrayReader.read_count.Goals as goal
 
-pub returns-in-default : goal.returns-in-default
-returns-in-default c = record {
+pub returns-in_default : goal.returns-in_default
+returns-in_default c = record {
   same = c.fault.ensures.same;
-  reads = short (at_count c.args.words) c.args.self.now.bytes.now c.args.self.now.position _ c.fault.new.self c.in-default.ensures no_count c.fault.ensures.gives;
+  reads = short (at_count c.args.words) c.args.self.now.bytes.now c.args.self.now.position _ c.fault.new.self c.in_default.ensures no_count c.fault.ensures.gives;
 }
 
 pub returns : goal.returns

@@ -4,16 +4,16 @@ use Rattle.trays.proofs.OneWay.{no_thresholds}
 use Rattle.trays.proofs.Requests.{short, few_said, thresholds_said}
 use Rattle.trays.proofs.reader.TrayReader.read_thresholds.Goals as goal
 
-pub returns-in-default : goal.returns-in-default
-returns-in-default c = record {
+pub returns-in_default : goal.returns-in_default
+returns-in_default c = record {
   same = c.fault.ensures.same;
-  reads = short at_thresholds c.args.self.now.bytes.now c.args.self.now.position _ c.fault.new.self c.in-default.ensures no_thresholds c.fault.ensures.gives;
+  reads = short at_thresholds c.args.self.now.bytes.now c.args.self.now.position _ c.fault.new.self c.in_default.ensures no_thresholds c.fault.ensures.gives;
 }
 
-pub returns-in-default-part : goal.returns-in-default-part
-returns-in-default-part c = record {
-  same = c.fault-in-default-part.ensures.same;
-  reads = few_said c.args.self.now.bytes.now c.args.self.now.position c.in-Some.count _ c.fault-in-default-part.new.self c.in-Some.ensures c.in-default-part.ensures c.fault-in-default-part.ensures.gives;
+pub returns-in_default-part : goal.returns-in_default-part
+returns-in_default-part c = record {
+  same = c.fault-in_default-part.ensures.same;
+  reads = few_said c.args.self.now.bytes.now c.args.self.now.position c.in-Some.count _ c.fault-in_default-part.new.self c.in-Some.ensures c.in_default-part.ensures c.fault-in_default-part.ensures.gives;
 }
 
 pub returns : goal.returns
