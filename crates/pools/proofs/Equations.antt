@@ -26,7 +26,7 @@ module _ {V : Type 0} (K : Field V) where
 
   -- a sum in two parts
   sum_parts : (d n : ℕ) (f : ℕ → V) → field.sum K (d + n) f ≡ add (field.sum K d f) (field.sum K n (λ k. f (d + k)))
-  sum_parts d zero f = ap (λ (m : ℕ). field.sum K m f) (add-zero d) ∙ sym (K.add-zero _)
+  sum_parts d zero f = ap (λ (m : ℕ). field.sum K m f) (add-zero d) ∙ sym (K.add_zero _)
   sum_parts d (suc n) f =
       ap (λ (m : ℕ). field.sum K m f) (add-suc d n)
       ∙ ap (λ s. add s (f (d + n))) (sum_parts d n f)

@@ -35,7 +35,7 @@ returns g c =
     let before = c.args.replies.now in
     let replies = c.loop-i.replies in
     let n = min (length requests) (length before) in
-    let all : c.loop-i.i ≡ n = omega (arith, c.min_i-end.ensures) in
+    let all : c.loop-i.i ≡ n = omega (arith, c.min-i-end.ensures) in
     let run = subst_three
     (λ f p v. RightRun (g.F.Field.arithmetic f) (thresholds p) (words_of v) none_yet (map called (take c.loop-i.i requests)) (map (replied (words_of v)) (take c.loop-i.i replies)))
     new.field c.args.field new.policy c.args.policy new.words c.args.words made.0 made.1 made.2 inv.0.run in
