@@ -73,7 +73,7 @@ returns-in_err-policy c =
           let less : c.in-Thresholds.offset - 1 ≡ 0 + 1 = omega (arith, same.1) in
           let stop = subst (λ at. Stops bad.0 layer.Policy at c.in_err-policy.field-0.0) less bad.2 in
           subst (λ x. OpensTo x t parts e) (sym p.1)
-          (misfit (at_place (field f.code) 0) (0 + 1) bad.0 l.levels.now parts f.others l.others e p.0 f.parts_are l.parts-are
+          (misfit (at_place (field f.code) 0) (0 + 1) bad.0 l.levels.now parts f.others l.others e p.0 f.parts_are l.parts_are
           (ap refuses_policy same.0 ∙ bad.1) (subst (λ s. Stops bad.0 layer.Policy (0 + 1) s) (sym p.2) stop));
       ready = subst (λ x. ReadyTo x t) (sym p.1) tt;
     }
@@ -92,7 +92,7 @@ returns-in_err-words c =
           let second = at_place (thresholds l.levels.now) (0 + 1) in
           subst (λ x. OpensTo x t parts e) (sym p.1)
           (early (first ∷ second ∷ []) parts e c.in_err-words.field-0.0 p.0
-          (f.parts_are ∙ ap (λ ps. first ∷ ps) (l.parts-are ∙ ap (λ ps. second ∷ ps) none.0))
+          (f.parts_are ∙ ap (λ ps. first ∷ ps) (l.parts_are ∙ ap (λ ps. second ∷ ps) none.0))
           (omega arith) (refl, (ap refuses_policy same.0 ∙ c.in_ok-policy.ensures.1, tt)) none.1 p.2);
       ready = subst (λ x. ReadyTo x t) (sym p.1) tt;
     }
@@ -132,7 +132,7 @@ returns-in_err-cards c =
           let third = at_place (words w.count) (0 + 1 + length (written (thresholds l.levels.now))) in
           subst (λ x. OpensTo x t parts e) (sym p.1)
           (early (first ∷ second ∷ third ∷ []) parts e c.in_err-cards.field-0.0 p.0
-          (f.parts_are ∙ ap (λ ps. first ∷ ps) (l.parts-are ∙ ap (λ ps. second ∷ ps) (w.parts-are ∙ ap (λ ps. third ∷ ps) none.0)))
+          (f.parts_are ∙ ap (λ ps. first ∷ ps) (l.parts_are ∙ ap (λ ps. second ∷ ps) (w.parts_are ∙ ap (λ ps. third ∷ ps) none.0)))
           (omega arith) (refl, (ap refuses_policy same.0 ∙ c.in_ok-policy.ensures.1, (refl, tt))) none.1 p.2);
       ready = subst (λ x. ReadyTo x t) (sym p.1) tt;
     }
@@ -163,7 +163,7 @@ returns c =
           let cards = one_count c.in_ok-cards.field-0 n.count c.in-CardCount.cards n.is c.in-CardCount.is in (
             n.others,
             record {
-              parts_are = opens f.code l.levels.now w.count n.count parts f.others l.others w.others n.others f.parts_are l.parts-are w.parts-are n.parts_are
+              parts_are = opens f.code l.levels.now w.count n.count parts f.others l.others w.others n.others f.parts_are l.parts_are w.parts_are n.parts_are
                   ∙ reopened f.code c.in-Field.field l.levels.now (levels-of c.in_ok-policy.policy) w.count (words_of c.word_count-words.result) n.count c.in-CardCount.cards n.others code (levels.0 ∙ sym policy.0) (count ∙ sym c.word_count-words.ensures) cards;
               fits = ap refuses_policy policy.0 ∙ policy.1;
               left = n.left;

@@ -6,8 +6,11 @@ use Rattle.pools.specs.Verdicts.{Right, decided}
 use Rattle.reports.proofs.Keys.{key_wide, key_full, key_front, judged_key}
 use Rattle.reports.proofs.session.Session.outcome.Goals as goal
 
-pub invariant-of-result : goal.invariant-of-result
-invariant-of-result g c = (key_full c.judge.new.key (replicate 16 0) c.args.words c.requires.1 c.judge.auto.key, (c.requires.1, tt))
+pub invariant_of-result : goal.invariant_of-result
+invariant_of-result g c = record {
+  room = key_full c.judge.new.key (replicate 16 0) c.args.words c.requires.1 c.judge.auto.key;
+  within = c.requires.1;
+}
 
 pub returns-in-Key : goal.returns-in-Key
 returns-in-Key g c =
