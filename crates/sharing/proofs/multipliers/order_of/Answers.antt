@@ -1,4 +1,4 @@
-use Rattle.std.proofs.Common.{◌≡◌, ◌∙◌, arith}
+use Rattle.std.proofs.Common.{arith}
 use Rattle.std.proofs.lemmas.List.{get_or_past}
 use Rattle.sharing.specs.Policies.{thresholds}
 use Rattle.sharing.proofs.multipliers.order_of.Goals as goal

@@ -1,4 +1,4 @@
-use Rattle.std.proofs.Common.{◌≡◌, ◌-◌, arith}
+use Rattle.std.proofs.Common.{◌-◌, arith}
 use Rattle.sharing.proofs.Steps.{falling_more}
 use Rattle.sharing.proofs.values.falling.Goals as goal
 
