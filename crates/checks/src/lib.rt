@@ -4,10 +4,10 @@
 #[cfg(test)]
 mod issuing;
 #[cfg(test)]
-mod pools;
-#[cfg(test)]
 mod readers;
 #[cfg(test)]
-mod reports;
+mod runs;
 #[cfg(test)]
 mod systems;
+#[cfg(test)]
+mod verdicts;

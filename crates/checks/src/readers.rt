@@ -1,5 +1,5 @@
 // What a reader of a tray hands out.
-use crate::reports::TRAY;
+use crate::runs::TRAY;
 use sharing::refusal::Refusal;
 use std::process::Abort;
 use std::test::Fail;
@@ -25,8 +25,9 @@ fn has_card(
     };
     assert_eq!(rt; card.level, level);
     assert_eq!(rt; card.id, id);
-    assert_eq!(rt; card.values[0], value);
-    assert_eq!(rt; card.values[1], 0);
+    let values = card.values;
+    assert_eq!(rt; values[0], value);
+    assert_eq!(rt; values[1], 0);
     Ok(())
 }
 
@@ -106,8 +107,9 @@ fn cards_have_their_length(rt: HostRuntime) -> Result<(), Fail> {
     };
     assert_eq!(rt; read.level, 7);
     assert_eq!(rt; read.id, 0x0403_0201);
-    assert_eq!(rt; read.values[0], 0xff07_0605);
-    assert_eq!(rt; read.values[1], 9);
-    assert_eq!(rt; read.values[2], 0);
+    let values = read.values;
+    assert_eq!(rt; values[0], 0xff07_0605);
+    assert_eq!(rt; values[1], 9);
+    assert_eq!(rt; values[2], 0);
     Ok(())
 }

@@ -12,8 +12,8 @@ use Rattle.fields.specs.Arithmetic.{Arithmetic, Laws}
 use Rattle.linear.specs.declared.equation.Equation.{Equation}
 use Rattle.linear.specs.declared.echelon.Inserted.{Inserted}
 use Rattle.linear.specs.declared.echelon.Inserted.TheVariants.{Stored, Redundant, Contradictory}
-use Rattle.linear.specs.Solutions.{entry, Satisfies}
-use Rattle.linear.specs.Rows.{Rewritten, plus, times, Zeros, Leads, InEchelonForm, Leftover, Solves, Joined, Clash, Inserts}
+use Rattle.linear.specs.Solutions.{entry}
+use Rattle.linear.specs.Rows.{Rewritten, plus, times, Zeros, InEchelonForm, Leftover, Joined, Clash, Inserts}
 use Rattle.linear.proofs.Systems as theory
 use Rattle.linear.proofs.Reduction.{Less, Times, Trimmed, Reduced, Put}
 use Rattle.linear.proofs.Values.{neg_mul, mul_zero, neg_zero}

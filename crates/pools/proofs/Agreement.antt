@@ -7,13 +7,13 @@
 --   solved_agreeing         solutions are agreeing coefficients
 --   key_read                the form of the last place reads the key
 -- Assumes nothing.
-use Rattle.std.proofs.Common.{◌≡◌, ℕ, zero, suc, ◌+◌, ◌-◌, ◌*◌, ◌/◌, ◌%◌, ◌<◌, ◌≤◌, List, [], ◌∷◌, length, get_or, sym, refl, ap, ◌∙◌, subst, ap₂, mod-lt, div-lt_iff_lt-mul, mul-zero, arith}
+use Rattle.std.proofs.Common.{◌≡◌, ℕ, ◌+◌, ◌-◌, ◌*◌, ◌/◌, ◌%◌, ◌<◌, List, [], ◌∷◌, length, get_or, sym, refl, ap, ◌∙◌, subst, ap₂, mod-lt, div-lt_iff_lt-mul, mul-zero, arith}
 use native.Mathlib.Decide.{dec_lt}
 use lib.ListN.{get_or-eq_default}
 use Rattle.std.proofs.lemmas.Nat.{mul-add-lt, div-mul-add, mod-mul-add}
 use Rattle.fields.specs.Arithmetic.{Arithmetic, Laws}
 use Rattle.linear.specs.Solutions.{Values, dot}
-use Rattle.linear.proofs.Reading.{sum_below, size_positive}
+use Rattle.linear.proofs.Reading.{size_positive}
 use Rattle.sharing.specs.Cards.{Card, row, top, order, key_of, Elements, Agrees, Every}
 use Rattle.pools.specs.Equations.{last_place}
 use Rattle.sharing.specs.Multipliers.{coefficient}

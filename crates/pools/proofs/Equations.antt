@@ -8,7 +8,6 @@ use Rattle.std.proofs.Common.{◌≡◌, ℕ, zero, suc, ◌+◌, ◌-◌, ◌<�
 use native.Mathlib.Decide.{ℕ_discrete}
 use lib.ListN.{length-replicate}
 use Rattle.fields.specs.Arithmetic.{Arithmetic, Laws}
-use Rattle.fields.specs.Sums.{sum}
 use Rattle.linear.specs.Solutions.{dot}
 use Rattle.linear.proofs.Fields.{Field}
 use Rattle.linear.proofs.Fields as field

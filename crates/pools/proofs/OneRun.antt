@@ -5,7 +5,6 @@
 use Rattle.std.proofs.Common.{◌≡◌, ℕ, zero, suc, ◌<◌, ◌≤◌, Bool, true, false, eqb, ◌⊎◌, List, [], ◌∷◌, length, get_or, sym, refl, ap, ◌∙◌, subst, ap₂, inl, inr, arith}
 use native.Mathlib.Decide.{ℕ_discrete, dec_le}
 use Rattle.fields.specs.Arithmetic.{Arithmetic, Laws}
-use Rattle.pools.specs.Verdicts.{Right}
 use Rattle.pools.specs.Sessions.{CardList, Call, present, withdraw, judge, count, ask_held, ask_turned, Answer, refused_by, truth, RightAnswer, RightRun, MeetsPolicy, up_to, step}
 use Rattle.pools.specs.Sessions as sessions
 use Rattle.pools.specs.Stands.{OneRunIsRight}

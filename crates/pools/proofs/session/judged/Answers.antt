@@ -1,4 +1,4 @@
-use Rattle.std.proofs.Common.{◌≡◌, ℕ, ◌-◌, true, false, eqb, List, ◌++◌, length, take, replicate, Ok, sym, refl, ap, ◌∙◌, arith, eqb-true}
+use Rattle.std.proofs.Common.{◌≡◌, ℕ, ◌-◌, true, false, eqb, List, ◌++◌, length, take, replicate, Ok, sym, ap, ◌∙◌, arith, eqb-true}
 use Rattle.std.proofs.lemmas.List.{length-take-le, take_at}
 use Rattle.sharing.specs.Dealings.{words_of}
 use Rattle.pools.specs.Judging.{told}

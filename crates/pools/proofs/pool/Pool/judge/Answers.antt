@@ -1,4 +1,4 @@
-use Rattle.std.proofs.Common.{◌≡◌, eqb, length, sym, refl, ◌∙◌, arith, eq-eqb}
+use Rattle.std.proofs.Common.{eqb, length, sym, refl, ◌∙◌, eq-eqb}
 use borrow.Author.Tests.{both_ways}
 use Rattle.sharing.specs.Dealings.{words_of}
 use Rattle.sharing.specs.Policies.{thresholds}
