@@ -1,9 +1,9 @@
 -- Numbers read as elements: what the contracts say of numbers is what the theory says of codes.
 --   read, numbers         values of numbers as an assignment of codes, and back
 --   row_of, slot_of, basis_of    an equation, an optional one and the rows of an echelon, read
---   el_rem, el-zero-of, el_is    a number, its remainder and zero, as codes
+--   el_rem, el_number_rem, el_is    a number and its remainder, as codes
 --   el_sum, el_dot        sums and products of numbers, read
---   dot-below             a dot product is an element
+--   sum_below             a sum is an element
 --   satisfies_to/from, solves_to/from, echelon_to/from    each relation of numbers and the same of codes
 -- Assumes nothing.
 use Rattle.std.proofs.Common.{◌≡◌, ℕ, zero, suc, ◌%◌, ◌<◌, List, get_or, Some, None, Option, sym, refl, ap, ◌∙◌, mod-lt, mod-eq_of_lt, arith}

@@ -2,7 +2,7 @@
 --   cleared               clearing a column takes off a multiple of the pivot row
 --   scaled                scaling a row is a multiple of it, where its places before the column hold zeros
 --   no_inverse            a number without an inverse is read as zero
---   all_zero, some-not    what the test for zeros tells
+--   all_zero, not_zero    what the test for zeros tells
 --   trimmed_passed, trimmed_cleared, reduced_cleared    what one column does to the row under elimination
 --   joined_stored, joined_redundant, clashes, leaves    what an insertion leaves, in its three ways
 -- Assumes nothing.

@@ -1,9 +1,9 @@
 -- Worked examples in three unknowns with one right side, over the wide field.
---   equation, form   an equation and a form by their three coefficients
---   values           the array of one value
---   doubled, clashing, square    three lists of equations
---   WorkedExamples  what they say: of the third unknown nothing, of three times the left side its value; that they
---                    contradict each other; of 1, 10 and 100 times the unknowns their sum
+--   equation, form             an equation and a form by their three coefficients
+--   values                     the array of one value
+--   doubled, clashing, square  three lists of equations
+--   WorkedExamples             what they say: of the third unknown nothing, of three times the left side its value; that they
+--                              contradict each other; of 1, 10 and 100 times the unknowns their sum
 -- Assumes nothing.
 use Rattle.std.specs.Prelude.{ℕ, List, [], ◌∷◌, replicate, refl}
 use Rattle.fields.specs.Modulo.{wide}

@@ -1,16 +1,16 @@
 -- What a list of linear equations says of a linear form, over a field.
---   Values                one number for each unknown, as many times as there are right sides
---   entry                 what stands at a place of an array
---   dot                   the sum of the products of coefficients and values
---   Satisfies             the values give the left side of the equation each right side that it has
---   Solution              elements of the field that satisfy every equation of a list
---   NoSolution            there is none
---   EveryValuePossible    whatever elements are wanted, some solution gives the form just these
---   OneValue              there is a solution, and every solution gives the form the same values
---   Decides               what is claimed by each decision
---   OneDecision          of any equations and any form one decision is right, and no other
---   SameMembers           two lists that have the same equations, in any order and any number of times
---   OrderDoesNotMatter what is right for a list is right for every list with the same equations
+--   Values              one number for each unknown, as many times as there are right sides
+--   entry               what stands at a place of an array
+--   dot                 the sum of the products of coefficients and values
+--   Satisfies           the values give the left side of the equation each right side that it has
+--   Solution            elements of the field that satisfy every equation of a list
+--   NoSolution          there is none
+--   EveryValuePossible  whatever elements are wanted, some solution gives the form just these
+--   OneValue            there is a solution, and every solution gives the form the same values
+--   Decides             what is claimed by each decision
+--   OneDecision         of any equations and any form one decision is right, and no other
+--   SameMembers         two lists that have the same equations, in any order and any number of times
+--   OrderDoesNotMatter  what is right for a list is right for every list with the same equations
 -- Here t is the number of unknowns and w that of the right sides; `In e equations` says that e stands in the list. Every
 -- number is read as its remainder by the size.
 -- Assumes nothing.

@@ -2,8 +2,8 @@
 -- proof of judging, and nobody has to believe them.
 --   last_place     the linear form that reads the last of t places
 --   Says           an equation that says of the coefficients what a card says
---   AllSay        as many equations as cards, each for the card at its place
---   ReadsKey      a form that reads the last of t places
+--   AllSay         as many equations as cards, each for the card at its place
+--   ReadsKey       a form that reads the last of t places
 -- Assumes nothing.
 use Rattle.std.specs.Prelude.{◌≡◌, ℕ, ◌-◌, ◌<◌, cond, List, [], ◌∷◌, ◌==◌, slice_index}
 use Rattle.fields.specs.Arithmetic.{Arithmetic}

@@ -1,8 +1,8 @@
 -- Worked cases. Those of sessions begin with an empty pool; keys have one word.
---   card          a card with one value
---   policy        thresholds 2 and 3
---   dependent, two_cards, midpoint, session    calls on a new pool
---   WorkedCases  all of them together
+--   card                                     a card with one value
+--   policy                                   thresholds 2 and 3
+--   dependent, two_cards, midpoint, session  calls on a new pool
+--   WorkedCases                              all of them together
 -- Assumes nothing.
 use Rattle.std.specs.Prelude.{◌≡◌, ℕ, true, false, List, [], ◌∷◌}
 use Rattle.fields.specs.Bytes.{bytes}

@@ -9,7 +9,7 @@
 --   RightRun              every answer of a whole session is right
 --   Orderly               what every list that a session leads to keeps
 -- Assumes nothing.
-use Rattle.std.specs.Prelude.{◌≡◌, ℕ, ◌+◌, ◌<◌, ◌≤◌, min, Bool, true, false, cond, not, ◌||◌, leb, List, [], ◌∷◌, ◌++◌, length, Some, None, Option, ◌==◌, ◌≢◌, nat_eq, nat_le, slice_index}
+use Rattle.std.specs.Prelude.{◌≡◌, ℕ, ◌+◌, ◌<◌, ◌≤◌, min, Bool, true, false, cond, not, ◌||◌, List, [], ◌∷◌, ◌++◌, length, Some, None, Option, ◌==◌, ◌≢◌, nat_eq, nat_le, slice_index}
 use Rattle.fields.specs.Arithmetic.{Arithmetic}
 use Rattle.sharing.specs.Cards.{Card, Elements, Every}
 use Rattle.sharing.specs.Refusals.{first, any}
@@ -35,7 +35,7 @@ keep p (x ∷ xs) = cond (p x) (x ∷ keep p xs) (keep p xs)
 
 -- a card with this id is among them
 abbrev pub holds : ℕ → List Card → Bool
-holds id held = any (λ h. nat_eq h.id id) held
+holds id held = any (λ h. h.id == id) held
 
 module _ (F : Arithmetic) (ts : List ℕ) (w : ℕ) where
   -- the conditions on a card while these are held, in their order, with the number of each
@@ -44,7 +44,7 @@ module _ (F : Arithmetic) (ts : List ℕ) (w : ℕ) where
       (not (length c.values == w), 8)
       ∷ (c.id == 0 || nat_le F.size c.id, 9)
       ∷ (nat_le (length ts) c.level, 10)
-      ∷ (any (λ v. leb F.size v) c.values, 11)
+      ∷ (any (λ v. nat_le F.size v) c.values, 11)
       ∷ (holds c.id held, 12)
       ∷ (nat_le 64 (length held), 13)
       ∷ []
@@ -71,7 +71,7 @@ module _ (F : Arithmetic) (ts : List ℕ) (w : ℕ) where
 
   -- how many held cards have this level or a lower one
   abbrev pub up_to : ℕ → List Card → ℕ
-  up_to L held = length (keep (λ h. leb h.level L) held)
+  up_to L held = length (keep (λ h. nat_le h.level L) held)
 
   abbrev pub MeetsPolicy : List Card → Type 0
   MeetsPolicy held = (L : ℕ) × (L < length ts) × (slice_index ts L ≤ up_to L held)

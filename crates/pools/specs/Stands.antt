@@ -1,9 +1,9 @@
 -- The theorems on verdicts, sessions and cards.
---   OneVerdictIsRight       over every field, for all thresholds, words and cards one verdict is right, and no other
---   OneRunIsRight           of any calls, whatever is held at the start, one list of answers is right, and no other
---   HeldCardsAreOrderly     whatever the calls, at most 64 cards are held, each fits, and no two have one id
+--   OneVerdictIsRight        over every field, for all thresholds, words and cards one verdict is right, and no other
+--   OneRunIsRight            of any calls, whatever is held at the start, one list of answers is right, and no other
+--   HeldCardsAreOrderly      whatever the calls, at most 64 cards are held, each fits, and no two have one id
 --   CardsCarryDerivatives    the sum on a card is the formal derivative: that of order 0 is the polynomial's value, and that
---                              of order d + 1 is that of order d of the derived polynomial
+--                            of order d + 1 is that of order d of the derived polynomial
 -- Assumes nothing.
 use Rattle.std.specs.Prelude.{◌≡◌, ℕ, suc, ◌-◌, List}
 use Rattle.fields.specs.Arithmetic.{Arithmetic, Laws}

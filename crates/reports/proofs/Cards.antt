@@ -10,7 +10,7 @@ use Rattle.std.proofs.lemmas.List.{append_assoc, length-append, map_push, take_a
 use Rattle.fields.specs.Arithmetic.{Arithmetic}
 use Rattle.sharing.specs.Cards.{Card}
 use Rattle.sharing.specs.Refusals.{number}
-use Rattle.pools.specs.Sessions.{CardList, none_yet, Call, present, step, after, refuses_card, answer_of, done as held-well, refused_by}
+use Rattle.pools.specs.Sessions.{CardList, none_yet, Call, present, step, after, refuses_card, answer_of, done as held_well, refused_by}
 use Rattle.sharing.specs.declared.refusal.Refusal.{Refusal}
 use Rattle.trays.specs.Answers.{gave_at, over, as_answer, due, rest, Reading, NextSaid}
 use Rattle.trays.specs.Cards.{Says, level_in, id_in, values_in}
@@ -49,7 +49,7 @@ pub told_refused : (k at : ℕ) (o : Option ℕ) (r : Refusal) → refused_by (n
 told_refused k at None r h = cc
 told_refused k at (Some n) r h = let same : n ≡ number r = cc in ap (λ x. record { ordinal = k; offset = at; reason = x } ∷ []) same
 
-pub told_held : (k at : ℕ) (o : Option ℕ) → held-well ≡ answer_of o → told k at o ≡ []
+pub told_held : (k at : ℕ) (o : Option ℕ) → held_well ≡ answer_of o → told k at o ≡ []
 told_held k at None h = refl
 told_held k at (Some n) h = cc
 

@@ -1,6 +1,6 @@
 -- The first few of eight thresholds, place by place.
 --   at_level     the threshold of a level is that of the eight which stands at its place
---   read-back    what eight reads of a short list give is the list
+--   read_back    what eight reads of a short list give is the list
 -- Assumes nothing.
 use Rattle.std.proofs.Common.{◌≡◌, ℕ, ◌<◌, ◌≤◌, List, [], ◌∷◌, length, get_or, take, sym, refl, ap, ◌∙◌, arith}
 use Rattle.std.proofs.lemmas.List.{length-take-le, get_or-take}

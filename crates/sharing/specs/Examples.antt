@@ -1,7 +1,7 @@
 -- Worked examples: what the definitions of cards and of refusals give.
---   policy             thresholds 2 and 3
---   polynomial         the polynomial 7 + 4 x + 5 x^2, by its coefficients
---   two_words          two of them for a key of two words, 5 and 3
+--   policy            thresholds 2 and 3
+--   polynomial        the polynomial 7 + 4 x + 5 x^2, by its coefficients
+--   two_words         two of them for a key of two words, 5 and 3
 --   WorkedExamples    all of them
 -- Assumes nothing.
 use Rattle.std.specs.Prelude.{◌≡◌, ℕ, ◌+◌, List, [], ◌∷◌, replicate, Some, None, slice_index}

@@ -12,7 +12,7 @@
 --   refuses_loading    why a dealing does not take coefficients
 --   refuses_issue      why a card is not issued
 -- Assumes nothing.
-use Rattle.std.specs.Prelude.{ℕ, zero, suc, ◌-◌, ◌*◌, Bool, false, cond, not, ◌&&◌, ◌||◌, leb, List, [], ◌∷◌, ◌++◌, length, Some, None, Ok, Err, codes, Option, Result, ◌==◌, nat_le, nat_lt, slice_index}
+use Rattle.std.specs.Prelude.{ℕ, zero, suc, ◌-◌, ◌*◌, Bool, false, cond, not, ◌&&◌, ◌||◌, List, [], ◌∷◌, ◌++◌, length, Some, None, Ok, Err, codes, Option, Result, ◌==◌, nat_le, nat_lt, slice_index}
 use Rattle.fields.specs.Arithmetic.{Arithmetic}
 use Rattle.sharing.specs.Cards.{top}
 use Rattle.sharing.specs.declared.refusal.Refusal.{Refusal}
@@ -89,7 +89,7 @@ refuses_words w = first ((w == 0 || nat_lt 16 w, 5) ∷ [])
 module _ (F : Arithmetic) (ts : List ℕ) (w : ℕ) where
   -- the conditions on coefficients: another number of them than w × t, or one that is no element
   abbrev pub on_coefficients : List ℕ → List (Bool × ℕ)
-  on_coefficients x = (not (length x == w * top ts), 6) ∷ (any (λ a. leb F.size a) x, 7) ∷ []
+  on_coefficients x = (not (length x == w * top ts), 6) ∷ (any (λ a. nat_le F.size a) x, 7) ∷ []
 
   abbrev pub refuses_loading : List ℕ → Option ℕ
   refuses_loading x = first (on_coefficients x)

@@ -2,7 +2,7 @@
 ghost use Rattle.std.specs.Prelude.{◌≡◌, ℕ, ◌+◌, ◌-◌, ◌<◌, ◌≤◌, length, take, drop, MatchOption, slice_index};
 ghost use Rattle.trays.specs.Answers.{AtStart, NextSaid, SaidFrom, answer, over};
 ghost use Rattle.sharing.specs.Refusals.{number};
-ghost use Rattle.trays.specs.Layout.{at_field, at_thresholds, at_words, at_count, at_cards, fault as a-fault, OneReading, Reads};
+ghost use Rattle.trays.specs.Layout.{at_field, at_thresholds, at_words, at_count, at_cards, fault as a_fault, OneReading, Reads};
 
 use crate::item::{Fault, Item};
 use crate::limits::{card_size, is_field, is_word_count};
@@ -50,7 +50,7 @@ impl<'a> TrayReader<'a> {
     // Gives a fault where the reader stands, and keeps it for all further requests.
     fn fault(&mut self, refusal: Refusal) -> Result<Item<'a>, Fault>
         ensures same { self.new.bytes ≡ self.old.bytes }
-        ensures gives { (answer result ≡ over (a-fault (number refusal) self.old.position)) × (self.new.stage ≡ Stage.Faulted (record { refusal = refusal; offset = self.old.position })) }
+        ensures gives { (answer result ≡ over (a_fault (number refusal) self.old.position)) × (self.new.stage ≡ Stage.Faulted (record { refusal = refusal; offset = self.old.position })) }
     {
         let fault = Fault {
             refusal,

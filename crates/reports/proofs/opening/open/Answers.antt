@@ -1,7 +1,7 @@
 use Rattle.std.proofs.Common.{◌≡◌, ◌+◌, ◌-◌, [], ◌∷◌, length, sym, refl, ap, ◌∙◌, subst, arith}
 use Rattle.std.proofs.lemmas.Result.{err_from_is_err_and}
 use Rattle.sharing.specs.Dealings.{words_of}
-use Rattle.sharing.specs.Policies.{thresholds as levels-of}
+use Rattle.sharing.specs.Policies.{thresholds as levels_of}
 use Rattle.sharing.specs.Refusals.{refuses_policy}
 use Rattle.trays.specs.Layout.{field, thresholds, words, written}
 use Rattle.reports.specs.Runs.{Stops}
@@ -164,7 +164,7 @@ returns c =
             n.others,
             record {
               parts_are = opens f.code l.levels.now w.count n.count parts f.others l.others w.others n.others f.parts_are l.parts_are w.parts_are n.parts_are
-                  ∙ reopened f.code c.in-Field.field l.levels.now (levels-of c.in_ok-policy.policy) w.count (words_of c.word_count-words.result) n.count c.in-CardCount.cards n.others code (levels.0 ∙ sym policy.0) (count ∙ sym c.word_count-words.ensures) cards;
+                  ∙ reopened f.code c.in-Field.field l.levels.now (levels_of c.in_ok-policy.policy) w.count (words_of c.word_count-words.result) n.count c.in-CardCount.cards n.others code (levels.0 ∙ sym policy.0) (count ∙ sym c.word_count-words.ensures) cards;
               fits = ap refuses_policy policy.0 ∙ policy.1;
               left = n.left;
             },
