@@ -1,4 +1,4 @@
--- Worked examples of both fields; those of the byte field are from FIPS 197.
+-- Worked examples of both fields; those of products in the byte field are from FIPS 197.
 --   Examples    all of them: first what the definitions give, then sums, products and inverses of both fields
 -- Assumes nothing.
 use Rattle.std.specs.Prelude.{◌≡◌, ◌*◌, ◌%◌, Some, None}

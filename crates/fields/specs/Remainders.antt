@@ -1,8 +1,8 @@
 -- Remainders of sums and products, and a step of Euclid's algorithm.
---   mod_mul_mod, mul_mod_mod    a factor may be replaced by its remainder
---   euclid_step                 the next factor of the algorithm leaves the next remainder
---   Commons                     every common divisor of the two remainders divides the two numbers that they began with
---   commons_start, commons_step it holds at the start and goes on from step to step
+--   mod_mul_mod, mul_mod_mod     a factor may be replaced by its remainder
+--   euclid_step                  the next factor of the algorithm leaves the next remainder
+--   Commons                      every common divisor of the two remainders divides the two numbers that they began with
+--   commons_start, commons_step  it holds at the start and goes on from step to step
 -- Assumes nothing.
 use Rattle.std.specs.Prelude.{◌≡◌, ℕ, ◌+◌, ◌-◌, ◌*◌, ◌/◌, ◌%◌, ◌<◌}
 use Rattle.std.proofs.Common.{sym, ap, ◌∙◌, arith, mul-one, mul-add, mul_comm, mul_left_comm}

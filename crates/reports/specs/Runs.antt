@@ -95,7 +95,7 @@ refuses (field b) = None
 refuses (thresholds ts) = refuses_policy ts
 refuses (words w) = None
 refuses (card_count n) = None
-refuses (card bytes) = None
+refuses (card _) = None
 
 -- thresholds that make no policy, whatever follows them; or a fault where the card count was not read yet
 pub data StopsEarly (parts : List Placed) (e : Ending) (s : Stop) : Type 0 where

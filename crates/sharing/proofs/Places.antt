@@ -1,7 +1,7 @@
 -- What a coefficient is multiplied by in the value of a card.
 --   coefficient_low, coefficient_high    below the order, and from it on
---   coefficient_from                    the same, at a place that is not below the order
---   zeros_at                           an array of zeros
+--   coefficient_from                     the same, at a place that is not below the order
+--   zeros_at                             an array of zeros
 -- Assumes nothing.
 use Rattle.std.proofs.Common.{◌≡◌, ℕ, zero, suc, ◌+◌, ◌-◌, ◌<◌, ◌≤◌, cond, get_or, replicate, sym, refl, ap, ◌∙◌, arith, le-leb}
 use borrow.Author.Tests.{lt-leb}

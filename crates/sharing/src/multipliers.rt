@@ -1,8 +1,8 @@
 // What a card says of the coefficients: by what each of them is multiplied in the card's value.
-ghost use Rattle.std.specs.Prelude.{◌≡◌, ℕ, ◌<◌, ◌≤◌, length};
+ghost use Rattle.std.specs.Prelude.{◌≡◌, ◌≤◌};
 ghost use Rattle.sharing.specs.Cards.{order};
 ghost use Rattle.sharing.specs.Factors.{Wholes};
-ghost use Rattle.sharing.specs.Multipliers.{coefficient, Multiplies, MultipliesTo};
+ghost use Rattle.sharing.specs.Multipliers.{Multiplies, MultipliesTo};
 ghost use Rattle.sharing.specs.Policies.{thresholds};
 
 use crate::policy::Policy;

@@ -1,10 +1,10 @@
 -- What a reader of a tray says, in the words of the layout.
---   answer                               what a result of the reader says
---   due                                  what it has to say where these parts are to come, and then this ending
---   rest                                 the parts that are then still to come
---   Reading                              from where a reader stands, its bytes are these parts, with this ending
---   AtStart                              a reader has all of these bytes to come
---   NextSaid, SaidFrom                   what a request says, and what it leaves to come
+--   answer    what a result of the reader says
+--   due       what it has to say where these parts are to come, and then this ending
+--   rest      the parts that are then still to come
+--   Reading   from where a reader stands, its bytes are these parts, with this ending
+--   AtStart   a reader has all of these bytes to come
+--   NextSaid, SaidFrom   what a request says, and what it leaves to come
 --   ReaderReadsOneWay, RequestsInOrder   the theorems about it
 -- Assumes nothing.
 use Rattle.std.specs.Prelude.{◌≡◌, ℕ, suc, ◌+◌, List, [], ◌∷◌, drop, Ok, Err, Result}

@@ -1,10 +1,10 @@
 -- The layout of a tray, as a relation between its bytes and the parts that they are.
---   Part                                               what a part of a tray says
---   written                                            the bytes of a part
---   Next                                               what comes next in a tray that is sound so far
---   Follows                                            a part that may stand where something is to come, and what comes after it
---   Wrong                                              why no part that may stand there does, by its number
---   Reads                                              bytes, from a place in a tray on, are these parts and then end, or then have a fault
+--   Part       what a part of a tray says
+--   written    the bytes of a part
+--   Next       what comes next in a tray that is sound so far
+--   Follows    a part that may stand where something is to come, and what comes after it
+--   Wrong      why no part that may stand there does, by its number
+--   Reads      bytes, from a place in a tray on, are these parts and then end, or then have a fault
 --   TrayReadsOneWay, TrayReadsBack, WholeTrayIsSound   the theorems about it
 -- Assumes nothing.
 use Rattle.std.specs.Prelude.{◌≡◌, ℕ, suc, ◌+◌, ◌*◌, ◌<◌, ◌≤◌, List, [], ◌∷◌, ◌++◌, map, length}

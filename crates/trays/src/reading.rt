@@ -1,5 +1,5 @@
 // Reads a tray part by part.
-ghost use Rattle.std.specs.Prelude.{◌≡◌, ℕ, ◌+◌, ◌-◌, ◌<◌, ◌≤◌, length, take, drop, MatchOption, slice_index};
+ghost use Rattle.std.specs.Prelude.{◌≡◌, ℕ, ◌+◌, ◌<◌, ◌≤◌, length, take, drop, MatchOption, slice_index};
 ghost use Rattle.trays.specs.Answers.{AtStart, NextSaid, SaidFrom, answer, over};
 ghost use Rattle.sharing.specs.Refusals.{number};
 ghost use Rattle.trays.specs.Layout.{at_field, at_thresholds, at_words, at_count, at_cards, fault as a_fault, OneReading, Reads};
