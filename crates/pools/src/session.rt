@@ -12,7 +12,7 @@ use crate::pool::Pool;
 use fields::Field;
 use sharing::policy::Policy;
 use sharing::refusal::Refusal;
-use sharing::words::{MOST_VALUES, WordCount};
+use sharing::words::{MOST_WORDS, WordCount};
 
 #[derive(Clone, Copy)]
 pub enum Request<'a> {
@@ -42,7 +42,7 @@ pub enum Reply {
     Truth(bool),
     Contradictory,
     Open,
-    Key([u32; MOST_VALUES]),
+    Key([u32; MOST_WORDS]),
 }
 
 impl Reply {
@@ -61,10 +61,10 @@ impl Reply {
 fn judged<F: Field>(pool: &Pool<F>, key_length: usize) -> Reply
     ensures { Answers F.Field.arithmetic pool.now (judge key_length) (replied (words_of pool.now.words) result) }
 {
-    if key_length > MOST_VALUES {
+    if key_length > MOST_WORDS {
         return Reply::Refused(Refusal::WrongBufferLength);
     }
-    let mut key = [0; MOST_VALUES];
+    let mut key = [0; MOST_WORDS];
     match pool.judge(&mut key[0..key_length]) {
         Err(refusal) => Reply::Refused(refusal),
         Ok(judgement) => match judgement {

@@ -2,7 +2,7 @@
 ghost use Rattle.std.specs.Prelude.{◌≡◌, ◌≤◌, length};
 
 use sharing::refusal::Refusal;
-use sharing::words::MOST_VALUES;
+use sharing::words::MOST_WORDS;
 
 // What a tray says before its cards.
 #[derive(Clone, Copy)]
@@ -51,7 +51,7 @@ pub struct Stop {
 // A key: the first `count` words.
 #[derive(Clone, Copy)]
 pub struct Key {
-    pub(crate) words: [u32; MOST_VALUES],
+    pub(crate) words: [u32; MOST_WORDS],
     pub(crate) count: usize,
     ghost room: { length words ≡ 16 },
     ghost within: { count ≤ 16 },

@@ -15,7 +15,7 @@ use crate::report::{Conclusion, Key, Outcome, RefusedCard, RefusedCards, Stop};
 use fields::Field;
 use pools::judgement::Judgement;
 use pools::pool::Pool;
-use sharing::words::MOST_VALUES;
+use sharing::words::MOST_WORDS;
 use trays::card::card_of;
 use trays::item::Item;
 use trays::reader::TrayReader;
@@ -80,7 +80,7 @@ impl<F: Field> Session<F> {
         ensures { Right (F.Field.arithmetic self.now.pool.field) (thresholds self.now.pool.policy) words (card_list self.now.pool).held (verdict_of result) }
     {
         let count = words as usize;
-        let mut key = [0; MOST_VALUES];
+        let mut key = [0; MOST_WORDS];
         let Ok(judgement) = self.pool.judge(&mut key[0..count]) else {
             unreachable()
         };

@@ -1,9 +1,7 @@
 pub mod Firsts
-pub mod Listed
 pub mod Loading
 pub mod Places
 pub mod Rising
 pub mod Rows
-pub mod Searching
 pub mod Steps
 pub mod Worked

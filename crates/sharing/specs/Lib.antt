@@ -3,6 +3,4 @@ pub mod Dealings
 pub mod Examples
 pub mod Factors
 pub mod Multipliers
-pub mod Policies
 pub mod Refusals
-pub mod Thresholds

@@ -3,7 +3,7 @@
 --   sentence           the sentence that tells it to a person
 --   refused            the number of the refusal that a call answered, if it answered one
 --   first              of conditions in their order, the number of the first that holds
---   any, somewhere     a test that some member of a list meets, or some number below another
+--   somewhere          a test that some number below another meets
 --   misplaced          a threshold is out of range or does not rise
 --   disordered         some threshold is misplaced
 --   refuses_policy     why thresholds make no policy
@@ -13,6 +13,7 @@
 --   refuses_issue      why a card is not issued
 -- Assumes nothing.
 use Rattle.std.specs.Prelude.{ℕ, zero, suc, ◌-◌, ◌*◌, Bool, false, cond, not, ◌&&◌, ◌||◌, List, [], ◌∷◌, ◌++◌, length, Some, None, Ok, Err, codes, Option, Result, ◌==◌, nat_le, nat_lt, slice_index}
+use Rattle.std.specs.List.{list_any}
 use Rattle.fields.specs.Arithmetic.{Arithmetic}
 use Rattle.sharing.specs.Cards.{top}
 use Rattle.sharing.specs.declared.refusal.Refusal.{Refusal}
@@ -61,10 +62,6 @@ abbrev pub first : List (Bool × ℕ) → Option ℕ
 first [] = None
 first (c ∷ cs) = cond c.0 (Some c.1) (first cs)
 
-abbrev pub any : {A : Type 0} → (A → Bool) → List A → Bool
-any p [] = false
-any p (x ∷ xs) = p x || any p xs
-
 -- some number below n meets the test
 abbrev pub somewhere : ℕ → (ℕ → Bool) → Bool
 somewhere zero p = false
@@ -89,7 +86,7 @@ refuses_words w = first ((w == 0 || nat_lt 16 w, 5) ∷ [])
 module _ (F : Arithmetic) (ts : List ℕ) (w : ℕ) where
   -- the conditions on coefficients: another number of them than w × t, or one that is no element
   abbrev pub on_coefficients : List ℕ → List (Bool × ℕ)
-  on_coefficients x = (not (length x == w * top ts), 6) ∷ (any (λ a. nat_le F.size a) x, 7) ∷ []
+  on_coefficients x = (not (length x == w * top ts), 6) ∷ (list_any (λ a. nat_le F.size a) x, 7) ∷ []
 
   abbrev pub refuses_loading : List ℕ → Option ℕ
   refuses_loading x = first (on_coefficients x)

@@ -2,14 +2,13 @@
 // cards, and is ended; each state is a type of its own, so a program that takes them in another order is not compiled.
 ghost use Rattle.std.specs.Prelude.{◌≡◌, length, replicate, MatchResult};
 ghost use Rattle.sharing.specs.Cards.{values_of};
-ghost use Rattle.sharing.specs.Dealings.{coefficients_of, words_of};
-ghost use Rattle.sharing.specs.Policies.{thresholds};
+ghost use Rattle.sharing.specs.Dealings.{coefficients_of};
 ghost use Rattle.sharing.specs.Refusals.{refused, refuses_loading, refuses_issue};
 
+use crate::derivative::Derivative;
 use crate::elements::any_outside;
 use crate::policy::Policy;
 use crate::refusal::Refusal;
-use crate::values::write_values;
 use crate::words::WordCount;
 use fields::Field;
 
@@ -23,35 +22,7 @@ pub struct OpenedDealing {
 // A dealing with its coefficients, which the caller can't touch meanwhile and which are wiped on every way out.
 pub struct LoadedDealing<'a> {
     coefficients: &'a mut [u32],
-    policy: Policy,
-    words: WordCount,
-}
-
-// Whether coefficients fit: as many as the policy and the words ask for, and each an element of the field.
-fn try_coefficients<F: Field>(
-    field: &F,
-    policy: &Policy,
-    words: &WordCount,
-    coefficients: &[u32],
-) -> Result<(), Refusal>
-    ensures { refused result ≡ refuses_loading (F.Field.arithmetic field.now) (thresholds policy.now) (words_of words.now) coefficients.now }
-{
-    if coefficients.len() != words.get() as usize * policy.top() as usize {
-        return Err(Refusal::WrongCoefficientCount);
-    }
-    if any_outside(field, coefficients) {
-        return Err(Refusal::CoefficientOutsideField);
-    }
-    Ok(())
-}
-
-// Writes 0 into every place.
-fn wipe(numbers: &mut [u32])
-    ensures { numbers.new ≡ replicate (length numbers.old) 0 }
-{
-    for number in numbers.iter_mut() {
-        *number = 0;
-    }
+    opened: OpenedDealing,
 }
 
 impl OpenedDealing {
@@ -61,21 +32,27 @@ impl OpenedDealing {
         OpenedDealing { policy, words }
     }
 
-    // Whether the coefficients are fit to be loaded.
+    // Whether the coefficients are fit to be loaded: as many as the policy and the words ask for, and each an element of
+    // the field.
     pub fn trial<F: Field>(&self, field: &F, coefficients: &[u32]) -> Result<(), Refusal>
-        ensures { refused result ≡ refuses_loading (F.Field.arithmetic field.now) (thresholds self.now.policy) (words_of self.now.words) coefficients.now }
+        ensures { refused result ≡ refuses_loading (F.Field.arithmetic field.now) self.now.policy self.now.words coefficients.now }
     {
-        try_coefficients(field, &self.policy, &self.words, coefficients)
+        if coefficients.len() != self.words.get() as usize * self.policy.top() as usize {
+            return Err(Refusal::WrongCoefficientCount);
+        }
+        if any_outside(field, coefficients) {
+            return Err(Refusal::CoefficientOutsideField);
+        }
+        Ok(())
     }
 
     // Takes the coefficients, fit or not; unfit ones are refused at every issue.
     pub fn load<'a>(self, coefficients: &'a mut [u32]) -> LoadedDealing<'a>
-        ensures { (result.policy ≡ self.policy) × (result.words ≡ self.words) × (result.coefficients ≡ coefficients.entry) }
+        ensures { (result.opened ≡ self) × (result.coefficients ≡ coefficients.entry) }
     {
         LoadedDealing {
             coefficients,
-            policy: self.policy,
-            words: self.words,
+            opened: self,
         }
     }
 }
@@ -89,22 +66,22 @@ impl LoadedDealing<'_> {
         id: u32,
         values: &mut [u32],
     ) -> Result<(), Refusal>
-        ensures answer { refused result ≡ refuses_issue (F.Field.arithmetic field.now) (thresholds self.now.policy) (words_of self.now.words) (coefficients_of self.now) level id (length values.old) }
-        ensures values { MatchResult result (λ _. values.new ≡ values_of (F.Field.arithmetic field.now) (thresholds self.now.policy) (words_of self.now.words) (coefficients_of self.now) level id) (λ _. values.new ≡ values.old) }
+        ensures answer { refused result ≡ refuses_issue (F.Field.arithmetic field.now) self.now.opened.policy self.now.opened.words (coefficients_of self.now) level id (length values.old) }
+        ensures values { MatchResult result (λ _. values.new ≡ values_of (F.Field.arithmetic field.now) self.now.opened.policy self.now.opened.words (coefficients_of self.now) level id) (λ _. values.new ≡ values.old) }
     {
         let loaded: &[u32] = self.coefficients;
-        try_coefficients(field, &self.policy, &self.words, loaded)?;
-        if values.len() != self.words.get() as usize {
+        self.opened.trial(field, loaded)?;
+        if values.len() != self.opened.words.get() as usize {
             return Err(Refusal::WrongBufferLength);
         }
         if id == 0 || id >= field.size() {
             return Err(Refusal::WrongId);
         }
-        let Some(order) = self.policy.order(level) else {
+        if level >= self.opened.policy.levels() {
             return Err(Refusal::NoSuchLevel);
-        };
-        let top = self.policy.top() as usize;
-        write_values(field, loaded, top, order as usize, id, values);
+        }
+        let derivative = Derivative::on_card(&self.opened.policy, level, id);
+        derivative.write_values(field, loaded, values);
         Ok(())
     }
 
@@ -114,10 +91,9 @@ impl LoadedDealing<'_> {
     {
         let LoadedDealing {
             coefficients,
-            policy: _,
-            words: _,
+            opened: _,
         } = self;
-        wipe(coefficients);
+        coefficients.fill(0);
     }
 }
 
@@ -126,11 +102,10 @@ impl Drop for LoadedDealing<'_> {
     fn drop(self)
         ensures { self.exit.0.now ≡ replicate (length self.entry.coefficients.now) 0 }
     {
-        wipe(self.coefficients);
+        self.coefficients.fill(0);
         let LoadedDealing {
             coefficients: _,
-            policy: _,
-            words: _,
+            opened: _,
         } = self;
     }
 }

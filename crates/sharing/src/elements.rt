@@ -1,17 +1,12 @@
 // Which numbers are elements of a field.
 ghost use Rattle.std.specs.Prelude.{◌≡◌, nat_le};
-ghost use Rattle.sharing.specs.Refusals.{any};
+ghost use Rattle.std.specs.List.{list_any};
 
 use fields::Field;
 
 // Whether some number is not below the field's size.
 pub fn any_outside<F: Field>(field: &F, numbers: &[u32]) -> bool
-    ensures { result ≡ any (λ a. nat_le (F.Field.arithmetic field.now).size a) numbers.now }
+    ensures { result ≡ list_any (λ a. nat_le (F.Field.arithmetic field.now).size a) numbers.now }
 {
-    for number in numbers {
-        if *number >= field.size() {
-            return true;
-        }
-    }
-    false
+    numbers.iter().any(|number| *number >= field.size())
 }

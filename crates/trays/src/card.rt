@@ -3,14 +3,14 @@ ghost use Rattle.std.specs.Prelude.{◌≡◌, ◌+◌, ◌-◌, ◌*◌, ◌<�
 ghost use Rattle.trays.specs.Cards.{Says, Sized, id_in, level_in, little_endian, numbers};
 
 use crate::limits::{card_size, is_word_count};
-use sharing::words::MOST_VALUES;
+use sharing::words::MOST_WORDS;
 
 // What a card says. The first values are the card's, as many as it has words; the others are zero.
 #[derive(Clone, Copy)]
 pub struct TrayCard {
     pub level: u8,
     pub id: u32,
-    pub values: [u32; MOST_VALUES],
+    pub values: [u32; MOST_WORDS],
     ghost full: { length values ≡ 16 },
 }
 
@@ -30,11 +30,11 @@ fn number_at(bytes: &[u8], at: usize) -> u32
 }
 
 // The `count` numbers of four bytes each, and zeros after them.
-fn numbers_in(bytes: &[u8], count: usize) -> [u32; MOST_VALUES]
+fn numbers_in(bytes: &[u8], count: usize) -> [u32; MOST_WORDS]
     requires { (count ≤ 16) × (4 * count ≤ length bytes.now) }
     ensures { result ≡ numbers count bytes.now ++ replicate (16 - count) 0 }
 {
-    let mut values = [0u32; MOST_VALUES];
+    let mut values = [0u32; MOST_WORDS];
     for i in 0..count {
         values[i] = number_at(bytes, 4 * i);
     }

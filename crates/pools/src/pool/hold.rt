@@ -12,16 +12,16 @@ use fields::Field;
 use sharing::elements::any_outside;
 use sharing::policy::Policy;
 use sharing::refusal::Refusal;
-use sharing::words::{MOST_VALUES, WordCount};
+use sharing::words::{MOST_WORDS, WordCount};
 
 // The values, with zeros after them.
-fn padded(values: &[u32]) -> [u32; MOST_VALUES]
+fn padded(values: &[u32]) -> [u32; MOST_WORDS]
     requires { length values.now ≤ 16 }
     ensures long { length result ≡ 16 }
     ensures front { take (length values.now) result ≡ values.now }
     ensures whole { result ≡ values.now ++ replicate (16 - length values.now) 0 }
 {
-    let mut all = [0; MOST_VALUES];
+    let mut all = [0; MOST_WORDS];
     for k in 0..values.len() {
         all[k] = values[k];
     }
@@ -37,7 +37,7 @@ impl<F: Field> Pool<F> {
         let unused = HeldCard {
             level: 0,
             id: 0,
-            values: [0; MOST_VALUES],
+            values: [0; MOST_WORDS],
         };
         Pool {
             field,

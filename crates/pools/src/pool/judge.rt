@@ -22,7 +22,7 @@ use linear::shape::Shape;
 use sharing::elements::any_outside;
 use sharing::multipliers::{MOST_COEFFICIENTS, multipliers};
 use sharing::refusal::Refusal;
-use sharing::words::MOST_VALUES;
+use sharing::words::MOST_WORDS;
 
 // The form that reads the last of the first `top` places, where a key's word stands.
 fn key_form(top: usize) -> Form
@@ -62,7 +62,7 @@ impl<F: Field> Pool<F> {
     {
         let blank = Equation {
             coefficients: [0; MOST_COEFFICIENTS],
-            right_sides: [0; MOST_VALUES],
+            right_sides: [0; MOST_WORDS],
         };
         let mut equations = [blank; MOST_CARDS];
         for i in 0..self.len {
