@@ -3,6 +3,7 @@
 --   no_solution, every_value, one_value    the three claims of the theory, as those of the statement
 --   decides_unique        no two decisions are right
 --   decides_order         what is right for a list is right for every list with the same equations
+--   promised              a decision that is right keeps the whole promise
 --   table                 the numbers that a function gives, as a list
 --   decision              the decision that the theory works out, with the proof that it is right
 --   one_decision          of any equations and any form one decision is right, and no other
@@ -16,7 +17,7 @@ use Rattle.linear.specs.declared.equation.Form.{Form}
 use Rattle.linear.specs.declared.decide.Decision.{Decision}
 use Rattle.linear.specs.declared.decide.Decision.TheVariants.{Contradictory, Open, Decided}
 use Rattle.linear.specs.Solutions.{Values, entry, Satisfies, Solution, NoSolution, EveryValuePossible, OneValue, Decides, SameMembers, OneDecision}
-use Rattle.linear.specs.Rows.{AllSatisfied}
+use Rattle.linear.specs.Rows.{AllSatisfied, Promise}
 use Rattle.linear.proofs.Fields.{dot}
 use Rattle.linear.proofs.Systems.{Assignment, AllHold, Means, Verdict}
 use Rattle.linear.proofs.Systems as theory
@@ -115,6 +116,14 @@ module _ (F : Arithmetic) (t w : ℕ) (first second : List Equation) (same : Sam
     forced = λ x s. m.forced x (moved_back x s);
     full = m.full;
     rest = m.rest;
+  }
+
+module _ (F : Arithmetic) (L : Laws F) (t w : ℕ) (equations : List Equation) (form : Form) where
+  pub promised : 1 ≤ w → (d : Decision) → Decides F t w equations form d → Promise F t w equations form d
+  promised l d right = record {
+    right = right;
+    only = λ e other. decides_unique F L t w equations form l e d other right;
+    in_any_order = λ others same. decides_order F t w equations others same form d right;
   }
 
 unfoldable pub table : ℕ → (ℕ → ℕ) → List ℕ

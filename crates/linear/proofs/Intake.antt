@@ -1,6 +1,5 @@
 -- Equations taken in one after another.
 --   stands_none           rows of which none is filled stand for no equation
---   not_contradictory     an insertion that is not contradictory leaves rows for the equation too
 --   stands_more           one equation more is taken in
 --   never_more            the equations up to one that clashes are never satisfied, nor are all of them
 -- Assumes nothing.
@@ -10,10 +9,8 @@ use mathlib.Core.List.{Memᴰ as In}
 use Rattle.std.proofs.lemmas.List.{take_more, take-append-drop, get_or-replicate}
 use Rattle.fields.specs.Arithmetic.{Arithmetic}
 use Rattle.linear.specs.declared.equation.Equation.{Equation}
-use Rattle.linear.specs.declared.echelon.Inserted.{Inserted}
-use Rattle.linear.specs.declared.echelon.Inserted.TheVariants.{Stored, Redundant, Contradictory}
 use Rattle.linear.specs.Solutions.{Satisfies}
-use Rattle.linear.specs.Rows.{Leads, Meets, Joined, Clash, Inserts, NeverSatisfied, Stands}
+use Rattle.linear.specs.Rows.{Leads, Meets, Joined, Clash, NeverSatisfied, Stands}
 
 in_take : {A : Type 0} (i : ℕ) (xs : List A) (a : A) → In a (take i xs) → In a xs
 in_take i xs a m = subst (In a) (take-append-drop i xs) (Memᴰ.append_left (drop i xs) m)
@@ -26,11 +23,6 @@ module _ (F : Arithmetic) (t w : ℕ) where
         echelon = λ p l. subst (Leads F p) (sym (none p l)) tt;
         same = λ x. ((λ s e m. absurd (Memᴰ.not-nil m)), λ s p l. subst (λ o. Meets F t w o x) (sym (none p l)) tt);
       }
-
-  pub not_contradictory : (before : List (Option Equation)) (e : Equation) (after : List (Option Equation)) (r : Inserted) → Inserts F t w before e after r → (r ≡ Contradictory → ⊥) → Joined F t w before e after
-  not_contradictory before e after Stored h d = h
-  not_contradictory before e after Redundant h d = h
-  not_contradictory before e after Contradictory h d = absurd (d refl)
 
   module _ (es : List Equation) (rows : List (Option Equation)) (e : Equation) (h : Stands F t w es rows) where
     stands_joined : (after : List (Option Equation)) → Joined F t w rows e after → Stands F t w (es ++ e ∷ []) after

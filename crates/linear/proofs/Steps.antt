@@ -6,12 +6,11 @@
 --   trimmed_passed, trimmed_cleared, reduced_cleared    what one column does to the row under elimination
 --   joined_stored, joined_redundant, clashes, leaves    what an insertion leaves, in its three ways
 -- Assumes nothing.
-use Rattle.std.proofs.Common.{◌≡◌, ℕ, ◌+◌, ◌%◌, ◌<◌, ◌≤◌, true, false, ◌≢◌, ◌↔◌, List, length, get_or, set, Some, None, Option, sym, ap, ◌∙◌, subst, mod-lt, arith, get_or-set_other, get_or-set_same}
+use Rattle.std.proofs.Common.{◌≡◌, ℕ, ◌+◌, ◌%◌, ◌<◌, ◌≤◌, true, false, ◌≢◌, ◌↔◌, List, length, get_or, set, Some, None, Option, Ok, Err, Result, sym, ap, ◌∙◌, subst, mod-lt, arith, get_or-set_other, get_or-set_same}
 use native.Mathlib.Decide.{dec_lt, ℕ_discrete}
 use Rattle.fields.specs.Arithmetic.{Arithmetic, Laws}
 use Rattle.linear.specs.declared.equation.Equation.{Equation}
-use Rattle.linear.specs.declared.echelon.Inserted.{Inserted}
-use Rattle.linear.specs.declared.echelon.Inserted.TheVariants.{Stored, Redundant, Contradictory}
+use Rattle.linear.specs.declared.row.Contradiction.{Contradiction}
 use Rattle.linear.specs.Solutions.{entry}
 use Rattle.linear.specs.Rows.{Rewritten, plus, times, Zeros, InEchelonForm, Leftover, Joined, Clash, Inserts}
 use Rattle.linear.proofs.Systems as theory
@@ -125,10 +124,9 @@ module _ (F : Arithmetic) (L : Laws F) where
         clashes (j, l, d) x s m =
             contradiction (field_of F L) t w _ (row_of F L e) (row_of F L row) h.agree low j l (not_zero _ d) (read F L x) (solves_to F L t w rows x s) (satisfies_to F L t w e x m)
 
-        pub leaves : (r : Inserted) → Leftover F w row r → Inserts F t w rows e rows r
-        leaves Stored z = absurd z
-        leaves Redundant z = joined_redundant z
-        leaves Contradictory z = clashes z
+        pub leaves : (r : Result (Unit {0}) Contradiction) → Leftover F w row r → Inserts F t w rows e rows r
+        leaves (Ok _) z = joined_redundant z
+        leaves (Err _) z = clashes z
 
       pub trimmed_passed : (p : ℕ) → F.inv (entry row.coefficients p) ≡ None → Trimmed (field_of F L) t w (basis_of F L rows) (row_of F L e) p (row_of F L row) → Trimmed (field_of F L) t w (basis_of F L rows) (row_of F L e) (p + 1) (row_of F L row)
       trimmed_passed p none h = trimmed_skip (field_of F L) t w _ p (p + 1) (omega arith) (no_inverse _ none) h

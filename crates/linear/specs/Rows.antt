@@ -3,24 +3,23 @@
 --   Rewritten             places from one to before another hold what a function gives, the others are as they were
 --   plus, times, negated  what the three row operations give at a place
 --   Zeros                 whether each of the first numbers stands for zero
---   Leftover              what an equation tells of which nothing is left on the left, by its right sides
+--   Leftover              what an equation tells of which nothing is left on the left: its right sides are zero too, or not
 --   Negation, Reading     what a cleared form tells: where nothing is left of it, its negated right sides
 --   Leads, InEchelonForm  the row at column p has zeros before it and one there; so has each row
 --   Meets, Solves         the values satisfy the row at a column, and those at all columns
 --   Joined                the rows after an equation was taken in are solved by what solves those before and the equation
 --   Clash                 nothing that solves the rows satisfies the equation
---   Inserts               what each answer of an insertion claims
+--   Inserts               what an insertion claims: the equation joined the rows, or it clashes with them
 --   AllSatisfied          the values satisfy each equation of a list
 --   NeverSatisfied        no values do
 --   Stands                the rows are solved by just what satisfies each equation of a list
 --   Promise               a decision is right, no other is, and it is right for the equations in any order
 -- Assumes nothing.
-use Rattle.std.specs.Prelude.{◌≡◌, ℕ, ◌%◌, ◌<◌, ◌≤◌, Bool, true, false, ◌↔◌, List, length, Some, None, Option, ◌≢◌, slice_index_or}
+use Rattle.std.specs.Prelude.{◌≡◌, ℕ, ◌%◌, ◌<◌, ◌≤◌, Bool, true, false, ◌↔◌, List, length, Some, None, Option, Ok, Err, Result, ◌≢◌, slice_index_or}
 use mathlib.Core.List.{Memᴰ as In}
 use Rattle.fields.specs.Arithmetic.{Arithmetic}
 use Rattle.linear.specs.declared.equation.Equation.{Equation}
-use Rattle.linear.specs.declared.echelon.Inserted.{Inserted}
-use Rattle.linear.specs.declared.echelon.Inserted.TheVariants.{Stored, Redundant, Contradictory}
+use Rattle.linear.specs.declared.row.Contradiction.{Contradiction}
 use Rattle.linear.specs.declared.equation.Form.{Form}
 use Rattle.linear.specs.declared.decide.Decision.{Decision}
 use Rattle.linear.specs.declared.decide.Decision.TheVariants as decision
@@ -44,10 +43,9 @@ abbrev pub Zeros : Arithmetic → ℕ → List ℕ → Bool → Type 0
 Zeros F to numbers true = (k : ℕ) → k < to → F.add (entry numbers k) 0 ≡ 0
 Zeros F to numbers false = (k : ℕ) × (k < to) × (F.add (entry numbers k) 0 ≢ 0)
 
-abbrev pub Leftover : Arithmetic → ℕ → Equation → Inserted → Type 0
-Leftover F w row Stored = ⊥
-Leftover F w row Redundant = Zeros F w row.right_sides true
-Leftover F w row Contradictory = Zeros F w row.right_sides false
+abbrev pub Leftover : Arithmetic → ℕ → Equation → Result (Unit {0}) Contradiction → Type 0
+Leftover F w row (Ok _) = Zeros F w row.right_sides true
+Leftover F w row (Err _) = Zeros F w row.right_sides false
 
 pub record Negation (F : Arithmetic) (t w : ℕ) (row : Equation) (values : List ℕ) : Type 0 where
   pub nothing_left : Zeros F t row.coefficients true
@@ -81,10 +79,9 @@ module _ (F : Arithmetic) (t w : ℕ) where
   abbrev pub Clash : List (Option Equation) → Equation → Type 0
   Clash before e = (x : Values) → Solves before x → Satisfies F t w e x → ⊥
 
-  abbrev pub Inserts : List (Option Equation) → Equation → List (Option Equation) → Inserted → Type 0
-  Inserts before e after Stored = Joined before e after
-  Inserts before e after Redundant = Joined before e after
-  Inserts before e after Contradictory = Clash before e
+  abbrev pub Inserts : List (Option Equation) → Equation → List (Option Equation) → Result (Unit {0}) Contradiction → Type 0
+  Inserts before e after (Ok _) = Joined before e after
+  Inserts before e after (Err _) = Clash before e
 
   abbrev pub AllSatisfied : List Equation → Values → Type 0
   AllSatisfied equations x = (e : Equation) → In e equations → Satisfies F t w e x

@@ -1,34 +1,28 @@
 // Rows in echelon form, which stand for the equations taken in so far. No row is exchanged and none is changed later.
-ghost use Rattle.std.specs.Prelude.{◌≡◌, ◌<◌, List, length, replicate, Some, None, MatchOption, slice_set};
+ghost use Rattle.std.specs.Prelude.{◌≡◌, ◌<◌, List, length, replicate, Some, None, MatchResult, slice_set};
 ghost use Rattle.linear.specs.Rows.{InEchelonForm, Inserts, Stands, NeverSatisfied, Promise};
 ghost use Rattle.linear.specs.Solutions.{Decides};
 
 use crate::decide::Decision;
-use crate::equation::{Equation, Form};
-use crate::row::{clear, homogeneous, leftover, reading, scale};
+use crate::equation::{Equation, Form, MOST_UNKNOWNS};
+use crate::row::{Contradiction, clear, leftover, reading, scale};
 use crate::shape::Shape;
 use fields::Field;
 
 // At a column the row whose first coefficient other than zero stands there, a one.
 #[derive(Clone, Copy)]
 pub(crate) struct Echelon {
-    rows: [Option<Equation>; 32],
+    rows: [Option<Equation>; MOST_UNKNOWNS],
     ghost columns: { length rows ≡ 32 },
-}
-
-// What became of an equation that was taken in.
-#[derive(Clone, Copy)]
-pub(crate) enum Inserted {
-    Stored,
-    Redundant,
-    Contradictory,
 }
 
 impl Echelon {
     pub(crate) fn empty() -> Echelon
         ensures { result.rows ≡ replicate 32 None }
     {
-        Echelon { rows: [None; 32] }
+        Echelon {
+            rows: [None; MOST_UNKNOWNS],
+        }
     }
 
     fn store(&mut self, column: usize, row: &Equation)
@@ -38,13 +32,13 @@ impl Echelon {
         self.rows[column] = Some(*row);
     }
 
-    // Takes in one equation more.
+    // Takes in one equation more, unless it contradicts those before.
     pub(crate) fn insert<F: Field>(
         &mut self,
         field: &F,
         shape: Shape,
         equation: &Equation,
-    ) -> Inserted
+    ) -> Result<(), Contradiction>
         requires { InEchelonForm (F.Field.arithmetic field.now) shape.unknowns self.old.rows }
         ensures { Inserts (F.Field.arithmetic field.now) shape.unknowns shape.right_sides self.old.rows equation.now self.new.rows result }
     {
@@ -58,23 +52,25 @@ impl Echelon {
                 };
                 scale(field, shape, &mut row, inverse, column);
                 self.store(column, &row);
-                return Inserted::Stored;
+                return Ok(());
             }
         }
         leftover(field, shape, &row)
     }
 
-    // The rows that stand for the equations; none where no values satisfy them all.
-    pub(crate) fn of<F: Field>(field: &F, shape: Shape, equations: &[Equation]) -> Option<Echelon>
-        ensures { MatchOption result (NeverSatisfied (F.Field.arithmetic field.now) shape.unknowns shape.right_sides equations.now) (λ e. Stands (F.Field.arithmetic field.now) shape.unknowns shape.right_sides equations.now e.rows) }
+    // The rows that stand for the equations; a contradiction where no values satisfy them all.
+    pub(crate) fn of<F: Field>(
+        field: &F,
+        shape: Shape,
+        equations: &[Equation],
+    ) -> Result<Echelon, Contradiction>
+        ensures { MatchResult result (λ e. Stands (F.Field.arithmetic field.now) shape.unknowns shape.right_sides equations.now e.rows) (λ _. NeverSatisfied (F.Field.arithmetic field.now) shape.unknowns shape.right_sides equations.now) }
     {
         let mut echelon = Echelon::empty();
         for equation in equations {
-            if let Inserted::Contradictory = echelon.insert(field, shape, equation) {
-                return None;
-            }
+            echelon.insert(field, shape, equation)?;
         }
-        Some(echelon)
+        Ok(echelon)
     }
 
     // Clears the form at every column that has a row: what is left at the others tells whether its value is free.
@@ -82,7 +78,7 @@ impl Echelon {
         requires { InEchelonForm (F.Field.arithmetic field.now) shape.unknowns self.now.rows }
         ensures { (equations : List Equation) → Stands (F.Field.arithmetic field.now) shape.unknowns shape.right_sides equations self.now.rows → Decides (F.Field.arithmetic field.now) shape.unknowns shape.right_sides equations form.now result }
     {
-        let mut row = homogeneous(form);
+        let mut row = form.homogeneous();
         for column in 0..shape.unknowns() as usize {
             if let Some(pivot) = &self.rows[column] {
                 clear(field, shape, &mut row, pivot, column);
@@ -101,7 +97,7 @@ pub(crate) fn eliminate<F: Field>(
 ) -> Decision
     ensures { Promise (F.Field.arithmetic field.now) shape.unknowns shape.right_sides equations.now form.now result }
 {
-    let Some(echelon) = Echelon::of(field, shape, equations) else {
+    let Ok(echelon) = Echelon::of(field, shape, equations) else {
         return Decision::Contradictory;
     };
     echelon.decide(field, shape, form)

@@ -1,26 +1,18 @@
 // Operations on a whole row, and what a row tells in the end. Clearing and scaling start at a column before which the
 // coefficients stand for zero.
-ghost use Rattle.std.specs.Prelude.{◌≡◌, ◌<◌, replicate};
+ghost use Rattle.std.specs.Prelude.{◌<◌};
 ghost use Rattle.linear.specs.Solutions.{entry};
 ghost use Rattle.linear.specs.Rows.{Rewritten, plus, times, Leftover, Reading};
 
 use crate::decide::Decision;
-use crate::echelon::Inserted;
-use crate::equation::{Equation, Form};
+use crate::equation::Equation;
 use crate::numbers::{add_multiple, all_zero, multiply_all, negate_all};
 use crate::shape::Shape;
 use fields::Field;
 
-// The row of a form: its coefficients, and zeros on the right.
-pub(crate) fn homogeneous(form: &Form) -> Equation
-    ensures left { result.coefficients ≡ form.now.coefficients }
-    ensures right { result.right_sides ≡ replicate 16 0 }
-{
-    Equation {
-        coefficients: form.coefficients,
-        right_sides: [0; 16],
-    }
-}
+// That no values satisfy an equation and those before it.
+#[derive(Clone, Copy, Debug, PartialEq, Eq)]
+pub(crate) struct Contradiction;
 
 // Takes off the multiple of the pivot row that leaves zero in the column.
 pub(crate) fn clear<F: Field>(
@@ -71,13 +63,17 @@ pub(crate) fn scale<F: Field>(
 }
 
 // What an equation tells of which nothing is left on the left: its right sides are zero too, or nothing satisfies it.
-pub(crate) fn leftover<F: Field>(field: &F, shape: Shape, row: &Equation) -> Inserted
+pub(crate) fn leftover<F: Field>(
+    field: &F,
+    shape: Shape,
+    row: &Equation,
+) -> Result<(), Contradiction>
     ensures { Leftover (F.Field.arithmetic field.now) shape.right_sides row.now result }
 {
     if all_zero(field, &row.right_sides, shape.right_sides() as usize) {
-        Inserted::Redundant
+        Ok(())
     } else {
-        Inserted::Contradictory
+        Err(Contradiction)
     }
 }
 

@@ -1,9 +1,7 @@
 // How many unknowns and how many right sides the equations of one list have.
 ghost use Rattle.std.specs.Prelude.{◌≡◌, ◌≤◌, MatchOption};
 
-const UNKNOWNS: u8 = 32;
-
-const RIGHT_SIDES: u8 = 16;
+use crate::equation::{MOST_RIGHT_SIDES, MOST_UNKNOWNS};
 
 #[derive(Clone, Copy)]
 pub struct Shape {
@@ -20,7 +18,10 @@ impl Shape {
     pub fn new(unknowns: u8, right_sides: u8) -> Option<Shape>
         ensures { MatchOption result ((1 ≤ unknowns) → (unknowns ≤ 32) → (1 ≤ right_sides) → (right_sides ≤ 16) → ⊥) (λ s. (s.unknowns ≡ unknowns) × (s.right_sides ≡ right_sides)) }
     {
-        if unknowns == 0 || unknowns > UNKNOWNS || right_sides == 0 || right_sides > RIGHT_SIDES {
+        if unknowns == 0 || unknowns as usize > MOST_UNKNOWNS {
+            return None;
+        }
+        if right_sides == 0 || right_sides as usize > MOST_RIGHT_SIDES {
             return None;
         }
         Some(Shape {

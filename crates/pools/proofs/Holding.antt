@@ -1,16 +1,16 @@
 -- Held cards and their equations, card by card.
 --   say_push               one more card and its equation
---   view_long              each card that is seen has w values
 --   Inside, inside         every value of a card is an element
 --   outside, all_below     some number is none; none is none
 --   outside_never          a value that is no element leaves nothing that solves
 --   satisfied_solved, solved_satisfied    values satisfy all equations just if they solve the cards
+--   padded                 what follows the decided values
 --   judged                 what is decided of the key's form is the right verdict
 -- Assumes nothing.
-use Rattle.std.proofs.Common.{◌≡◌, ℕ, zero, suc, ◌%◌, ◌<◌, ◌≤◌, Bool, true, false, leb, List, [], ◌∷◌, ◌++◌, length, get_or, sym, refl, ap, ◌∙◌, subst, ⊎_elim, mod-eq_of_lt, arith, leb-false, leb-true}
+use Rattle.std.proofs.Common.{◌≡◌, ℕ, zero, suc, ◌+◌, ◌-◌, ◌%◌, ◌<◌, ◌≤◌, Bool, true, false, leb, List, [], ◌∷◌, ◌++◌, length, get_or, take, drop, replicate, sym, refl, ap, ◌∙◌, subst, ⊎_elim, mod-eq_of_lt, arith, ext_get_or, leb-false, leb-true}
 use mathlib.Core.List.Memᴰ
 use mathlib.Core.List.{Memᴰ as In}
-use Rattle.std.proofs.lemmas.List.{length-take-le}
+use Rattle.std.proofs.lemmas.List.{get_or-take, get_or-drop, length-take-le, length-drop, length-replicate}
 use Rattle.std.proofs.lemmas.Bool.{or_parts, or_cases}
 use Rattle.fields.specs.Arithmetic.{Arithmetic, Laws}
 use Rattle.linear.specs.declared.equation.Equation.{Equation}
@@ -19,14 +19,13 @@ use Rattle.linear.specs.declared.decide.Decision.{Decision}
 use Rattle.linear.specs.declared.decide.Decision.TheVariants.{Contradictory, Open, Decided}
 use Rattle.linear.specs.Solutions.{Values, Satisfies, Solution, Decides, entry, dot}
 use Rattle.linear.proofs.Reading.{sum_below}
-use Rattle.sharing.specs.Cards.{Card, top, order, Every}
+use Rattle.sharing.specs.Cards.{Card, row, top, order, Every}
+use Rattle.sharing.proofs.Places.{zeros_at}
+use Rattle.sharing.proofs.Rows.{is_row}
 use Rattle.sharing.specs.Multipliers.{coefficient}
-use Rattle.pools.specs.Equations.{last_place, Says, AllSay, ReadsKey}
-use Rattle.pools.specs.Judging.{verdict_by}
-use Rattle.pools.specs.Pools.{view}
-use Rattle.sharing.specs.Refusals.{any}
-use Rattle.pools.specs.Verdicts.{Right}
-use Rattle.pools.specs.declared.card.HeldCard.{HeldCard}
+use Rattle.pools.specs.Equations.{last_place, Says, AllSay, ReadsKey, Padded, verdict_by}
+use Rattle.std.specs.List.{list_any}
+use Rattle.pools.specs.Verdicts.{decided, Right}
 use Rattle.pools.proofs.Agreement.{CardSolved, Solved}
 use Rattle.pools.proofs.Equations.{dot_same}
 use Rattle.pools.proofs.Verdicts.{never_solved, every_value, one_value}
@@ -38,18 +37,13 @@ say_push F ts w [] (f ∷ es) c e h s = absurd h
 say_push F ts w (d ∷ cs) [] c e h s = absurd h
 say_push F ts w (d ∷ cs) (f ∷ es) c e h s = (h.0, say_push F ts w cs es c e h.1 s)
 
-pub view_long : (w n : ℕ) (cards : List HeldCard) → w ≤ 16 → Every (λ c. length c.values ≡ w) (view w n cards)
-view_long w zero cards l = tt
-view_long w (suc n) [] l = tt
-view_long w (suc n) (c ∷ cards) l = (length-take-le w c.values (omega (arith, c.wide)), view_long w n cards l)
-
 module _ (F : Arithmetic) (w : ℕ) where
   abbrev pub Inside : Card → Type 0
   Inside c = (j : ℕ) → j < w → get_or c.values j 0 < F.size
 
   -- some number is not below the size
   abbrev pub outside : List ℕ → Bool
-  outside xs = any (λ v. leb F.size v) xs
+  outside xs = list_any (λ v. leb F.size v) xs
 
   pub all_below : (xs : List ℕ) → outside xs ≡ false → (j : ℕ) → j < length xs → get_or xs j 0 < F.size
   all_below [] e j l = absurd (omega arith)
@@ -63,14 +57,14 @@ module _ (F : Arithmetic) (w : ℕ) where
       (λ (h : outside xs ≡ true). let (j, l, m) = one_above xs h in (suc j, omega arith, m))
       (or_cases (leb F.size x) (outside xs) e)
 
-  pub inside : (cs : List Card) → Every (λ c. length c.values ≡ w) cs → any (λ c. outside c.values) cs ≡ false → Every Inside cs
+  pub inside : (cs : List Card) → Every (λ c. length c.values ≡ w) cs → list_any (λ c. outside c.values) cs ≡ false → Every Inside cs
   inside [] long e = tt
   inside (c ∷ cs) long e =
-      let parts = or_parts (outside c.values) (any (λ c. outside c.values) cs) e in
+      let parts = or_parts (outside c.values) (list_any (λ c. outside c.values) cs) e in
       ((λ j l. all_below c.values parts.0 j (omega (arith, long.0))), inside cs long.1 parts.1)
 
   module _ (L : Laws F) (ts : List ℕ) (x : Values) where
-    pub outside_never : (cs : List Card) → Every (λ c. length c.values ≡ w) cs → any (λ c. outside c.values) cs ≡ true
+    pub outside_never : (cs : List Card) → Every (λ c. length c.values ≡ w) cs → list_any (λ c. outside c.values) cs ≡ true
         → Every (CardSolved F L ts w x) cs → ⊥
     outside_never [] long e s = let z : ◌≡◌ {A = ℕ} 0 1 = cc in omega arith
     outside_never (c ∷ cs) long e s =
@@ -80,8 +74,8 @@ module _ (F : Arithmetic) (w : ℕ) where
         let here = s.0 j (omega (arith, long.0)) in
         let small = sum_below F L (top ts) (λ k. F.mul (coefficient F (order ts c.level) c.id k) (x j k)) in
         omega arith)
-        (λ (h : any (λ c. outside c.values) cs ≡ true). outside_never cs long.1 h s.1)
-        (or_cases (outside c.values) (any (λ c. outside c.values) cs) e)
+        (λ (h : list_any (λ c. outside c.values) cs ≡ true). outside_never cs long.1 h s.1)
+        (or_cases (outside c.values) (list_any (λ c. outside c.values) cs) e)
 
     card_solved : (c : Card) (e : Equation) → Says F ts w c e → Inside c → Satisfies F (top ts) w e x → CardSolved F L ts w x c
     card_solved c e h i s j l =
@@ -111,6 +105,21 @@ module _ (F : Arithmetic) (w : ℕ) where
         let this : f ≡ e → Satisfies F (top ts) w f x = λ q. subst (λ d. Satisfies F (top ts) w d x) (sym q) here in
         ⊎_elim this (λ n. solved_satisfied cs es h.1 i.1 s.1 f n) (Memᴰ.cases_cons m)
 
+-- the values of an array of 16, which are zero from a place on
+front : (w : ℕ) (xs : List ℕ) → w ≤ 16 → length xs ≡ 16 → row w (entry xs) ≡ take w xs
+front w xs l e =
+    sym (is_row (take w xs) w (entry xs) (length-take-le w xs (omega arith)) (λ k m. get_or-take w xs k 0 m))
+
+zeros_follow : (w : ℕ) (xs : List ℕ) → w ≤ 16 → length xs ≡ 16 → ((j : ℕ) → w ≤ j → entry xs j ≡ 0) → drop w xs ≡ replicate (16 - w) 0
+zeros_follow w xs l e h =
+    ext_get_or 0 (drop w xs) (replicate (16 - w) 0) (omega (arith, length-drop w xs, length-replicate {A = ℕ} (16 - w) 0))
+    (λ k m. get_or-drop w xs k 0 ∙ h (w + k) (omega arith) ∙ sym (zeros_at (16 - w) k))
+
+pub padded : (F : Arithmetic) (t w : ℕ) (es : List Equation) (form : Form) → w ≤ 16 → (d : Decision) → Decides F t w es form d → Padded w d
+padded F t w es form l Contradictory never = tt
+padded F t w es form l Open every = tt
+padded F t w es form l (Decided values) one = (one.full, l, zeros_follow w values l one.full one.rest)
+
 module _ (F : Arithmetic) (L : Laws F) (ts : List ℕ) (w : ℕ) (held : List Card) (es : List Equation) (form : Form)
     (says : AllSay F ts w held es) (inner : Every (Inside F w) held) (long : Every (λ c. length c.values ≡ w) held) (key : ReadsKey (top ts) form) where
   solution : (x : Values) → Solved F L ts w held x → Solution F (top ts) w es x
@@ -122,10 +131,11 @@ module _ (F : Arithmetic) (L : Laws F) (ts : List ℕ) (w : ℕ) (held : List Ca
   reads : (x : ℕ → ℕ) → dot F (top ts) (last_place (top ts)) x ≡ dot F (top ts) (entry form.coefficients) x
   reads x = dot_same F (top ts) _ _ x x (λ k m. sym (key.reads k m)) (λ k m. refl)
 
-  pub judged : 0 < w → (d : Decision) → Decides F (top ts) w es form d → Right F ts w held (verdict_by w d)
-  judged l Contradictory never = never_solved F L ts w held (λ x s. never x (solution x s))
-  judged l Open every = every_value F L ts w held long (λ v below.
+  pub judged : 0 < w → w ≤ 16 → (d : Decision) → Decides F (top ts) w es form d → Right F ts w held (verdict_by w d)
+  judged l m Contradictory never = never_solved F L ts w held (λ x s. never x (solution x s))
+  judged l m Open every = every_value F L ts w held long (λ v below.
       let (x, s, g) = every v below in (x, solved x s, λ j m. reads (x j) ∙ g j m))
-  judged l (Decided values) one = one_value F L ts w held long l (entry values)
+  judged l m (Decided values) one =
+      subst (λ k. Right F ts w held (decided k)) (front w values m one.full) (one_value F L ts w held long l (entry values)
       (let (x, s) = one.possible in (x, solved x s))
-      (λ x s j m. reads (x j) ∙ one.forced x (solution x s) j m)
+      (λ x s j m. reads (x j) ∙ one.forced x (solution x s) j m))

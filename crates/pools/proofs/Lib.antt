@@ -6,7 +6,6 @@ pub mod Holding
 pub mod OneRun
 pub mod OneVerdict
 pub mod Orderly
-pub mod Presenting
 pub mod Running
 pub mod Verdicts
-pub mod Views
+pub mod Withdrawing

@@ -1,4 +1,4 @@
--- Of any calls one list of answers is right, and no other.
+-- Of list_any calls one list of answers is right, and no other.
 --   one_answer          the one right answer to a call
 --   one_run_is_right    the right answers of a session
 -- Assumes nothing.

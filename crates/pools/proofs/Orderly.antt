@@ -4,19 +4,19 @@
 --   stays                                                    one call
 --   held_cards_are_orderly                                   all calls from an empty pool
 -- Assumes nothing.
-use Rattle.std.proofs.Common.{◌≡◌, ℕ, zero, suc, ◌<◌, ◌≤◌, Bool, true, false, cond, not, eqb, leb, List, [], ◌∷◌, ◌++◌, length, get_or, Some, None, Option, sym, refl, arith, length-append, eqb-true, leb-false}
+use Rattle.std.proofs.Common.{◌≡◌, ℕ, zero, suc, ◌<◌, ◌≤◌, Bool, true, false, cond, not, eqb, leb, List, [], ◌∷◌, ◌++◌, length, filter, get_or, Some, None, Option, sym, refl, arith, length-append, eqb-true, leb-false}
 use borrow.Author.Tests.{eqb-false, not-false}
 use Rattle.std.proofs.lemmas.Bool.{or_parts}
 use Rattle.fields.specs.Arithmetic.{Arithmetic}
 use Rattle.sharing.specs.Cards.{Card, Every}
-use Rattle.sharing.specs.Refusals.{any}
-use Rattle.pools.specs.Sessions.{CardList, Call, present, withdraw, judge, count, ask_held, ask_turned, keep, refusals, refuses_card, presented, step, after, none_yet, Accepted, Apart, Orderly}
+use Rattle.std.specs.List.{list_any}
+use Rattle.pools.specs.Sessions.{CardList, Call, present, withdraw, judge, count, ask_held, ask_turned, refusals, refuses_card, presented, step, after, none_yet, Accepted, Apart, Orderly}
 use Rattle.pools.specs.Stands.{HeldCardsAreOrderly}
 use Rattle.sharing.proofs.Firsts.{first_none}
 
-none_of : {A : Type 0} (p : A → Bool) (xs : List A) → any p xs ≡ false → Every (λ x. p x ≡ false) xs
+none_of : {A : Type 0} (p : A → Bool) (xs : List A) → list_any p xs ≡ false → Every (λ x. p x ≡ false) xs
 none_of p [] e = tt
-none_of p (x ∷ xs) e = let parts = or_parts (p x) (any p xs) e in (parts.0, none_of p xs parts.1)
+none_of p (x ∷ xs) e = let parts = or_parts (p x) (list_any p xs) e in (parts.0, none_of p xs parts.1)
 
 every_also : {A : Type 0} (P Q : A → Type 0) → ((x : A) → P x → Q x) → (xs : List A) → Every P xs → Every Q xs
 every_also P Q f [] h = tt
@@ -26,17 +26,17 @@ every_push : {A : Type 0} (P : A → Type 0) (xs : List A) (y : A) → Every P x
 every_push P [] y h p = (p, tt)
 every_push P (x ∷ xs) y h p = (h.0, every_push P xs y h.1 p)
 
-every_keep : {A : Type 0} (P : A → Type 0) (p : A → Bool) (xs : List A) → Every P xs → Every P (keep p xs)
+every_keep : {A : Type 0} (P : A → Type 0) (p : A → Bool) (xs : List A) → Every P xs → Every P (filter p xs)
 every_keep P p [] h = tt
 every_keep P p (x ∷ xs) h =
     let rest = every_keep P p xs h.1 in
-    elim (p x) as (λ b. Every P (cond b (x ∷ keep p xs) (keep p xs))) [ true ↦ (h.0, rest) | false ↦ rest ]
+    elim (p x) as (λ b. Every P (cond b (x ∷ filter p xs) (filter p xs))) [ true ↦ (h.0, rest) | false ↦ rest ]
 
-length_keep : {A : Type 0} (p : A → Bool) (xs : List A) → length (keep p xs) ≤ length xs
+length_keep : {A : Type 0} (p : A → Bool) (xs : List A) → length (filter p xs) ≤ length xs
 length_keep p [] = omega arith
 length_keep p (x ∷ xs) =
     let rest = length_keep p xs in
-    elim (p x) as (λ b. length (cond b (x ∷ keep p xs) (keep p xs)) ≤ length (x ∷ xs)) [ true ↦ omega arith | false ↦ omega arith ]
+    elim (p x) as (λ b. length (cond b (x ∷ filter p xs) (filter p xs)) ≤ length (x ∷ xs)) [ true ↦ omega arith | false ↦ omega arith ]
 
 at_place : (P : ℕ → Type 0) (xs : List ℕ) → Every P xs → (k : ℕ) → k < length xs → P (get_or xs k 0)
 at_place P [] h k l = absurd (omega arith)
@@ -48,17 +48,17 @@ module _ (F : Arithmetic) (ts : List ℕ) (w : ℕ) where
   apart_push [] c a h = (tt, tt)
   apart_push (d ∷ cs) c a h = (every_push (λ x. x.id ≡ d.id → ⊥) cs c a.0 (λ e. h.0 (sym e)), apart_push cs c a.1 h.1)
 
-  apart_keep : (p : Card → Bool) (cs : List Card) → Apart F ts w cs → Apart F ts w (keep p cs)
+  apart_keep : (p : Card → Bool) (cs : List Card) → Apart F ts w cs → Apart F ts w (filter p cs)
   apart_keep p [] a = tt
   apart_keep p (c ∷ cs) a =
       let rest = apart_keep p cs a.1 in
-      elim (p c) as (λ b. Apart F ts w (cond b (c ∷ keep p cs) (keep p cs))) [
+      elim (p c) as (λ b. Apart F ts w (cond b (c ∷ filter p cs) (filter p cs))) [
         | true ↦ (every_keep (λ x. x.id ≡ c.id → ⊥) p cs a.0, rest)
         | false ↦ rest
       ]
 
   -- one call
-  stays : (s : CardList) → Orderly F ts w s → (c : Call) → Orderly F ts w (step F ts w s c)
+  pub stays : (s : CardList) → Orderly F ts w s → (c : Call) → Orderly F ts w (step F ts w s c)
   stays s o (present c) = go (refuses_card F ts w s.held c) refl
     where
       go : (r : Option ℕ) → refuses_card F ts w s.held c ≡ r → Orderly F ts w (presented F ts w s c r)

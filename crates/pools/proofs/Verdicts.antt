@@ -1,5 +1,6 @@
 -- What the solutions of the cards' equations say of the key is the right verdict.
 --   right_unique           no two verdicts are right
+--   right_long             a key that is right has w words
 --   right_contradictory, right_undecided, right_decided    each verdict, from what it claims of agreeing coefficients
 --   never_solved, every_value, one_value    each, from what is claimed of solutions
 --   no_words               where a key has no words
@@ -24,6 +25,9 @@ module _ (F : Arithmetic) (ts : List ℕ) (w : ℕ) (held : List Card) where
   right_unique (decided k) (decided m) r s =
       let (x, a) = r.key_possible k refl in
       ap decided (sym (r.key_carried k refl x a) ∙ s.key_carried m refl x a)
+
+  pub right_long : (k : List ℕ) → Right F ts w held (decided k) → length k ≡ w
+  right_long k r = let (x, a) = r.key_possible k refl in ap length (sym (r.key_carried k refl x a)) ∙ length_row w _
 
 module _ (F : Arithmetic) (L : Laws F) (ts : List ℕ) (w : ℕ) (held : List Card) where
   -- w times one element

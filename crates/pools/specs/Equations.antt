@@ -4,13 +4,18 @@
 --   Says           an equation that says of the coefficients what a card says
 --   AllSay         as many equations as cards, each for the card at its place
 --   ReadsKey       a form that reads the last of t places
+--   verdict_by     what is decided of the key's form, as a verdict on w words
+--   Padded         zeros follow the w words that are decided, up to 16
 -- Assumes nothing.
-use Rattle.std.specs.Prelude.{◌≡◌, ℕ, ◌-◌, ◌<◌, cond, List, [], ◌∷◌, ◌==◌, slice_index}
+use Rattle.std.specs.Prelude.{◌≡◌, ℕ, ◌-◌, ◌<◌, ◌≤◌, cond, List, [], ◌∷◌, length, take, drop, replicate, ◌==◌, slice_index}
 use Rattle.fields.specs.Arithmetic.{Arithmetic}
+use Rattle.linear.specs.declared.decide.Decision.{Decision}
+use Rattle.linear.specs.declared.decide.Decision.TheVariants.{Contradictory, Open, Decided}
 use Rattle.linear.specs.declared.equation.Equation.{Equation}
 use Rattle.linear.specs.declared.equation.Form.{Form}
 use Rattle.sharing.specs.Cards.{Card, top, order}
 use Rattle.sharing.specs.Multipliers.{coefficient}
+use Rattle.pools.specs.Verdicts.{Verdict, contradictory, undecided, decided}
 
 unfoldable pub last_place : ℕ → ℕ → ℕ
 last_place t k = cond (k == t - 1) 1 0
@@ -28,3 +33,13 @@ AllSay F ts w (c ∷ cs) (e ∷ es) = Says F ts w c e × AllSay F ts w cs es
 
 pub record ReadsKey (t : ℕ) (form : Form) : Type 0 where
   pub reads : (k : ℕ) → k < t → slice_index form.coefficients k ≡ last_place t k
+
+abbrev pub verdict_by : ℕ → Decision → Verdict
+verdict_by w Contradictory = contradictory
+verdict_by w Open = undecided
+verdict_by w (Decided values) = decided (take w values)
+
+abbrev pub Padded : ℕ → Decision → Type 0
+Padded w Contradictory = Unit {0}
+Padded w Open = Unit {0}
+Padded w (Decided values) = (length values ≡ 16) × (w ≤ 16) × (drop w values ≡ replicate (16 - w) 0)

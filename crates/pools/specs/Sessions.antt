@@ -9,10 +9,11 @@
 --   RightRun              every answer of a whole session is right
 --   Orderly               what every list that a session leads to keeps
 -- Assumes nothing.
-use Rattle.std.specs.Prelude.{◌≡◌, ℕ, ◌+◌, ◌<◌, ◌≤◌, min, Bool, true, false, cond, not, ◌||◌, List, [], ◌∷◌, ◌++◌, length, Some, None, Option, ◌==◌, ◌≢◌, nat_le, slice_index}
+use Rattle.std.specs.Prelude.{◌≡◌, ℕ, ◌+◌, ◌<◌, ◌≤◌, min, Bool, true, false, not, ◌||◌, List, [], ◌∷◌, ◌++◌, length, filter, Some, None, Option, ◌==◌, ◌≢◌, nat_le, slice_index}
+use Rattle.std.specs.List.{list_any}
 use Rattle.fields.specs.Arithmetic.{Arithmetic}
 use Rattle.sharing.specs.Cards.{Card, Elements, Every}
-use Rattle.sharing.specs.Refusals.{first, any}
+use Rattle.sharing.specs.Refusals.{first}
 use Rattle.pools.specs.Verdicts.{Verdict, Right}
 
 pub record CardList : Type 0 where
@@ -29,13 +30,9 @@ pub data Call : Type 0 where
   judge : ℕ → Call
   count ask_held ask_turned : Call
 
-abbrev pub keep : {A : Type 0} → (A → Bool) → List A → List A
-keep p [] = []
-keep p (x ∷ xs) = cond (p x) (x ∷ keep p xs) (keep p xs)
-
 -- a card with this id is among them
 abbrev pub holds : ℕ → List Card → Bool
-holds id held = any (λ h. h.id == id) held
+holds id held = list_any (λ h. h.id == id) held
 
 module _ (F : Arithmetic) (ts : List ℕ) (w : ℕ) where
   -- the conditions on a card while these are held, in their order, with the number of each
@@ -44,7 +41,7 @@ module _ (F : Arithmetic) (ts : List ℕ) (w : ℕ) where
       (not (length c.values == w), 8)
       ∷ (c.id == 0 || nat_le F.size c.id, 9)
       ∷ (nat_le (length ts) c.level, 10)
-      ∷ (any (λ v. nat_le F.size v) c.values, 11)
+      ∷ (list_any (λ v. nat_le F.size v) c.values, 11)
       ∷ (holds c.id held, 12)
       ∷ (nat_le 64 (length held), 13)
       ∷ []
@@ -59,7 +56,7 @@ module _ (F : Arithmetic) (ts : List ℕ) (w : ℕ) where
 
   abbrev pub step : CardList → Call → CardList
   step s (present c) = presented s c (refuses_card s.held c)
-  step s (withdraw id) = record { held = keep (λ h. not (h.id == id)) s.held; turned = s.turned }
+  step s (withdraw id) = record { held = filter (λ h. not (h.id == id)) s.held; turned = s.turned }
   step s (judge n) = s
   step s count = s
   step s ask_held = s
@@ -71,7 +68,7 @@ module _ (F : Arithmetic) (ts : List ℕ) (w : ℕ) where
 
   -- how many held cards have this level or a lower one
   abbrev pub up_to : ℕ → List Card → ℕ
-  up_to L held = length (keep (λ h. nat_le h.level L) held)
+  up_to L held = length (filter (λ h. nat_le h.level L) held)
 
   abbrev pub MeetsPolicy : List Card → Type 0
   MeetsPolicy held = (L : ℕ) × (L < length ts) × (slice_index ts L ≤ up_to L held)

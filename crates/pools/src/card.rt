@@ -1,16 +1,20 @@
 // A card as a pool holds it.
-ghost use Rattle.std.specs.Prelude.{◌≡◌, length};
-
+use arrayvec::ArrayVec;
 use sharing::words::MOST_WORDS;
+use std::marker::Model;
 
-// How many cards a pool has room for.
-pub(crate) const MOST_CARDS: usize = 64;
-
-// The card's values stand first; zeros follow up to the longest card's length.
-#[derive(Clone, Copy)]
+#[derive(Default, Drop)]
 pub struct HeldCard {
     pub(crate) level: u8,
     pub(crate) id: u32,
-    pub(crate) values: [u32; MOST_WORDS],
-    ghost wide: { length values ≡ 16 },
+    pub(crate) values: ArrayVec<u32, MOST_WORDS>,
+}
+
+// Clauses see the card.
+impl Model for HeldCard {
+    ghost use Rattle.sharing.specs.Cards.{Card};
+
+    ghost Value = { Card };
+
+    ghost view = { λ c. record { level = c.level; id = c.id; values = c.values.items } };
 }

@@ -3,6 +3,7 @@
 
 mod card;
 pub mod judgement;
+pub mod key;
 pub mod pool;
 pub mod session;
 pub mod theorems;

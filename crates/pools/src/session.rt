@@ -1,18 +1,16 @@
 // Whole sessions: requests to one new pool, one after another, and the reply to each.
-ghost use Rattle.std.specs.Prelude.{◌≡◌, ℕ, min, map, length, take, drop};
-ghost use Rattle.sharing.specs.Dealings.{words_of};
-ghost use Rattle.sharing.specs.Policies.{thresholds};
+ghost use Rattle.std.specs.Prelude.{◌≡◌, min, map, length, take, drop};
 ghost use Rattle.pools.specs.Pools.{Frame, Steps, Answers};
-ghost use Rattle.sharing.specs.Refusals.{refused};
 ghost use Rattle.pools.specs.Requests.{called, replied};
-ghost use Rattle.pools.specs.Sessions.{RightRun, none_yet, answer_of, judge};
+ghost use Rattle.pools.specs.Sessions.{RightRun, none_yet, judge};
 
 use crate::judgement::Judgement;
+use crate::key::Key;
 use crate::pool::Pool;
 use fields::Field;
 use sharing::policy::Policy;
 use sharing::refusal::Refusal;
-use sharing::words::{MOST_WORDS, WordCount};
+use sharing::words::WordCount;
 
 #[derive(Clone, Copy)]
 pub enum Request<'a> {
@@ -33,74 +31,57 @@ pub enum Request<'a> {
     TurnedAway,
 }
 
-// A key's words stand first.
+// What is replied to a request that is not refused.
 #[derive(Clone, Copy, PartialEq, Eq, Debug)]
 pub enum Reply {
     Done,
-    Refused(Refusal),
     Number(u32),
     Truth(bool),
-    Contradictory,
-    Open,
-    Key([u32; MOST_WORDS]),
+    Judged(Judgement<Key>),
 }
 
-impl Reply {
-    // The reply to a request that is done or refused.
-    fn of(res: Result<(), Refusal>) -> Reply
-        ensures { (w : ℕ) → replied w result ≡ answer_of (refused res) }
-    {
-        match res {
-            Ok(()) => Reply::Done,
-            Err(refusal) => Reply::Refused(refusal),
-        }
-    }
-}
-
-// Judges into a buffer of this length. No key is longer than 16 words, so a longer buffer is refused.
-fn judged<F: Field>(pool: &Pool<F>, key_length: usize) -> Reply
-    ensures { Answers F.Field.arithmetic pool.now (judge key_length) (replied (words_of pool.now.words) result) }
+// Judges for a key buffer of this length.
+fn judged<F: Field>(pool: &Pool<F>, key_length: usize) -> Result<Reply, Refusal>
+    ensures { Answers F.Field.arithmetic pool.now (judge key_length) (replied result) }
 {
-    if key_length > MOST_WORDS {
-        return Reply::Refused(Refusal::WrongBufferLength);
+    if key_length != pool.words().get() as usize {
+        return Err(Refusal::WrongBufferLength);
     }
-    let mut key = [0; MOST_WORDS];
-    match pool.judge(&mut key[0..key_length]) {
-        Err(refusal) => Reply::Refused(refusal),
-        Ok(judgement) => match judgement {
-            Judgement::Contradictory => Reply::Contradictory,
-            Judgement::Open => Reply::Open,
-            Judgement::Key => Reply::Key(key),
-        },
-    }
+    Ok(Reply::Judged(pool.verdict()))
 }
 
 // Makes one request.
-fn one<F: Field>(pool: &mut Pool<F>, request: Request) -> Reply
+fn one<F: Field>(pool: &mut Pool<F>, request: Request) -> Result<Reply, Refusal>
     ensures list { Steps F.Field.arithmetic pool.old (called request.entry) pool.new }
     ensures frame { Frame pool.old pool.new }
-    ensures answer { Answers F.Field.arithmetic pool.old (called request.entry) (replied (words_of pool.old.words) result) }
+    ensures answer { Answers F.Field.arithmetic pool.old (called request.entry) (replied result) }
 {
     match request {
-        Request::Present { level, id, values } => Reply::of(pool.present(level, id, values)),
-        Request::Withdraw { id } => Reply::of(pool.withdraw(id)),
+        Request::Present { level, id, values } => {
+            pool.present(level, id, values)?;
+            Ok(Reply::Done)
+        }
+        Request::Withdraw { id } => {
+            pool.withdraw(id)?;
+            Ok(Reply::Done)
+        }
         Request::Judge { key_length } => judged(pool, key_length),
-        Request::MeetsPolicy => Reply::Truth(pool.meets_policy()),
-        Request::Held => Reply::Number(pool.held() as u32),
-        Request::TurnedAway => Reply::Number(pool.turned_away() as u32),
+        Request::MeetsPolicy => Ok(Reply::Truth(pool.meets_policy())),
+        Request::Held => Ok(Reply::Number(pool.held() as u32)),
+        Request::TurnedAway => Ok(Reply::Number(pool.turned_away() as u32)),
     }
 }
 
-// Makes the requests of a new pool in their order, as many as there is room for replies, and writes the reply to each;
-// the places after them stay as they were.
+// Makes the requests of a new pool in their order, as many as there is room for replies, and writes the reply to each, or
+// why the request is refused; the places after them stay as they were.
 pub fn run_session<F: Field + Drop>(
     field: F,
     policy: Policy,
     words: WordCount,
     requests: &[Request],
-    replies: &mut [Reply],
+    replies: &mut [Result<Reply, Refusal>],
 )
-    ensures run { RightRun (F.Field.arithmetic field) (thresholds policy) (words_of words) none_yet (map called (take (min (length requests.now) (length replies.old)) requests.now)) (map (replied (words_of words)) (take (min (length requests.now) (length replies.old)) replies.new)) }
+    ensures run { RightRun (F.Field.arithmetic field) policy words none_yet (map called (take (min (length requests.now) (length replies.old)) requests.now)) (map replied (take (min (length requests.now) (length replies.old)) replies.new)) }
     ensures rest { drop (min (length requests.now) (length replies.old)) replies.new ≡ drop (min (length requests.now) (length replies.old)) replies.old }
 {
     let mut pool = Pool::new(field, policy, words);

@@ -1,25 +1,25 @@
 // Counts the cards of a pool; nothing here judges them.
 ghost use Rattle.std.specs.Prelude.{◌≡◌, ◌≤◌};
-ghost use Rattle.sharing.specs.Dealings.{words_of};
-ghost use Rattle.sharing.specs.Policies.{thresholds};
-ghost use Rattle.pools.specs.Pools.{card_list, Answers};
+ghost use Rattle.pools.specs.Pools.{Answers};
 ghost use Rattle.pools.specs.Sessions.{count, ask_held, ask_turned, up_to, number, truth};
 
 use super::Pool;
 use fields::Field;
+use sharing::words::WordCount;
 
 impl<F: Field> Pool<F> {
+    // How many words a key has.
+    pub fn words(&self) -> WordCount
+        ensures { result ≡ self.now.words }
+    {
+        self.words
+    }
+
     // How many held cards have this level or a lower one.
     fn up_to(&self, level: u8) -> usize
-        ensures { result ≡ up_to (F.Field.arithmetic self.now.field) (thresholds self.now.policy) (words_of self.now.words) level (card_list self.now).held }
+        ensures { result ≡ up_to (F.Field.arithmetic self.now.field) self.now.policy self.now.words level self.now.list.held }
     {
-        let mut cards = 0;
-        for i in 0..self.len {
-            if self.cards[i].level <= level {
-                cards += 1;
-            }
-        }
-        cards
+        self.cards.iter().filter(|card| card.level <= level).count()
     }
 
     // Whether for some level enough cards of it and the lower ones are held.
@@ -42,7 +42,7 @@ impl<F: Field> Pool<F> {
         ensures answer { Answers F.Field.arithmetic self.now ask_held (number result) }
         ensures range { result ≤ 64 }
     {
-        self.len
+        self.cards.len()
     }
 
     // How many presentations were turned away; the count stops at 65,535.

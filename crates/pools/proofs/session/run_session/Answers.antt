@@ -1,7 +1,5 @@
 use Rattle.std.proofs.Common.{◌≡◌, ℕ, ◌+◌, min, List, map, length, take, drop, set, sym, refl, ap, ◌∙◌, subst, arith}
 use Rattle.std.proofs.lemmas.List.{drop-set-lt, drop-drop}
-use Rattle.sharing.specs.Dealings.{words_of}
-use Rattle.sharing.specs.Policies.{thresholds}
 use Rattle.pools.specs.Requests.{called, replied}
 use Rattle.pools.specs.Sessions.{RightRun, none_yet}
 use Rattle.pools.proofs.Running.{run_goes_on, subst_three}
@@ -37,9 +35,9 @@ returns g c =
     let n = min (length requests) (length before) in
     let all : c.loop-i.i ≡ n = omega (arith, c.min-i-end.ensures) in
     let run = subst_three
-    (λ f p v. RightRun (g.F.Field.arithmetic f) (thresholds p) (words_of v) none_yet (map called (take c.loop-i.i requests)) (map (replied (words_of v)) (take c.loop-i.i replies)))
+    (λ f p v. RightRun (g.F.Field.arithmetic f) p v none_yet (map called (take c.loop-i.i requests)) (map replied (take c.loop-i.i replies)))
     new.field c.args.field new.policy c.args.policy new.words c.args.words made.0 made.1 made.2 inv.0.run in
     record {
-      run = subst (λ k. RightRun (g.F.Field.arithmetic c.args.field) (thresholds c.args.policy) (words_of c.args.words) none_yet (map called (take k requests)) (map (replied (words_of c.args.words)) (take k replies))) all run;
+      run = subst (λ k. RightRun (g.F.Field.arithmetic c.args.field) c.args.policy c.args.words none_yet (map called (take k requests)) (map replied (take k replies))) all run;
       rest = subst (λ k. drop k replies ≡ drop k before) all inv.1;
     }

@@ -1,11 +1,10 @@
-use Rattle.std.proofs.Common.{◌≡◌, ℕ, ◌-◌, take, ◌∙◌, subst, arith}
+use Rattle.std.proofs.Common.{◌≡◌, ℕ, ◌<◌, ◌≤◌, length, ◌∙◌, ap, subst, arith}
 use Rattle.linear.specs.Solutions.{Decides}
 use Rattle.sharing.specs.Cards.{top}
-use Rattle.sharing.specs.Dealings.{words_of}
 use Rattle.pools.specs.Equations.{ReadsKey}
-use Rattle.sharing.specs.Policies.{thresholds}
-use Rattle.pools.specs.Pools.{view}
-use Rattle.pools.proofs.Holding.{judged, inside, view_long}
+use Rattle.pools.specs.Sessions.{Accepted, Orderly}
+use Rattle.pools.proofs.Agreement.{every_map}
+use Rattle.pools.proofs.Holding.{Inside, judged, padded}
 use Rattle.pools.proofs.pool.Pool.decision.Goals as goal
 
 pub returns : goal.returns
@@ -13,20 +12,24 @@ returns g c =
     let pool = c.args.self.now in
     let F = g.F.Field.arithmetic pool.field in
     let L = g.met.F.Field.lawful pool.field in
-    let ts = thresholds pool.policy in
-    let w = words_of pool.words in
-    let held = view w pool.len pool.cards in
-    let es = c.equations-equations.result in
+    let ts = pool.policy in
+    let w = pool.words in
+    let held = pool.list.held in
+    let es = c.equations-equations.result.items in
     let form = c.key_form-form.result in
     let d = c.decide.result in
     let shape = c.in-Some.shape in
-    let unknowns = c.in-Some.ensures.0 ∙ c.top-top.ensures.last in
-    let sides = c.in-Some.ensures.1 ∙ c.get.ensures.words in
-    let all : pool.len - 0 ≡ pool.len = omega arith in
-    let long = view_long w pool.len pool.cards pool.words.few in
-    let decides : Decides F (top ts) w (take pool.len es) form d =
-    subst (λ (t : ℕ). Decides F t w (take pool.len es) form d) unknowns
-    (subst (λ (m : ℕ). Decides F shape.unknowns m (take pool.len es) form d) sides
-    (subst (λ (n : ℕ). Decides F shape.unknowns shape.right_sides (take n es) form d) all c.decide.ensures.right)) in
-    let key : ReadsKey (top ts) form = subst (λ (t : ℕ). ReadsKey t form) c.top-top.ensures.last c.key_form-form.ensures in
-    judged F L ts w held (take pool.len es) form c.equations-equations.ensures.each (inside F w held long c.requires) long key (omega (arith, pool.words.some)) d decides
+    let tops = c.top-top.ensures.last ∙ ap (λ v. top v.policy) c.self.view_is in
+    let words = c.get.ensures.words ∙ ap (λ v. v.words) c.self.view_is in
+    let orderly : Orderly F ts w pool.list = subst (λ v. Orderly (g.F.Field.arithmetic v.field) v.policy v.words v.list) c.self.view_is c.self.invariant in
+    let inner = every_map (Accepted F ts w) (Inside F w) held (λ a h j l. h.elements.below j l) orderly.accepted in
+    let long = every_map (Accepted F ts w) (λ a. length a.values ≡ w) held (λ a h. h.elements.long) orderly.accepted in
+    let decides : Decides F (top ts) w es form d =
+    subst (λ G. Decides G (top ts) w es form d) (ap (λ v. g.F.Field.arithmetic v.field) c.self.view_is)
+    (subst (λ (t : ℕ). Decides (g.F.Field.arithmetic c.self.inside.field) t w es form d) (c.in-Some.ensures.0 ∙ tops)
+    (subst (λ (m : ℕ). Decides (g.F.Field.arithmetic c.self.inside.field) shape.unknowns m es form d) (c.in-Some.ensures.1 ∙ words)
+    (subst (λ xs. Decides (g.F.Field.arithmetic c.self.inside.field) shape.unknowns shape.right_sides xs form d) c.deref.ensures.0 c.decide.ensures.right))) in
+    let key : ReadsKey (top ts) form = subst (λ (t : ℕ). ReadsKey t form) tops c.key_form-form.ensures in
+    let some : 0 < w = omega (arith, c.get.ensures.range.0, words) in
+    let few : w ≤ 16 = omega (arith, c.get.ensures.range.1, words) in
+    record { right = judged F L ts w held es form c.equations-equations.ensures inner long key some few d decides; padded = padded F (top ts) w es form few d decides }

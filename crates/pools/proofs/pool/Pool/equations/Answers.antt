@@ -1,38 +1,28 @@
-use Rattle.std.proofs.Common.{◌≡◌, ℕ, get_or, take, ◌∙◌, subst, arith, length-set}
-use Rattle.std.proofs.lemmas.List.{map_more, take_more_set}
-use Rattle.sharing.specs.Dealings.{words_of}
-use Rattle.pools.specs.Equations.{AllSay}
-use Rattle.sharing.specs.Policies.{thresholds}
-use Rattle.pools.specs.Pools.{shown, view}
+use Rattle.std.proofs.Common.{◌≡◌, ◌+◌, [], ◌∷◌, ◌++◌, take, sym, ap, ◌∙◌, arith}
+use Rattle.std.proofs.lemmas.List.{take_more, take_all}
 use Rattle.pools.proofs.Holding.{say_push}
 use Rattle.pools.proofs.pool.Pool.equations.Goals as goal
 
-pub loop-i-preserved : goal.loop-i-preserved
-loop-i-preserved g c =
+pub loop-card-preserved : goal.loop-card-preserved
+loop-card-preserved g c =
     let pool = c.args.self.now in
-    let F = g.F.Field.arithmetic pool.field in
-    let ts = thresholds pool.policy in
-    let w = words_of pool.words in
-    let i = c.loop-i.i in
-    let es = c.loop-i.equations in
-    let e = c.equation.result in
-    let card = get_or pool.cards i c.index-self-i.result in
-    let inv = c.loop-i.invariant in
-    let cards = map_more (shown w) pool.cards i c.index-self-i.result (omega (arith, pool.room)) in
-    let equations = take_more_set es i e (omega arith) in (
-      length-set es i e ∙ inv.0,
-      rw (cards, equations) (say_push F ts w (view w i pool.cards) (take i es) (shown w card) e inv.1 c.equation.ensures),
-    )
+    let held = pool.list.held in
+    let i = c.loop-card.card-index in
+    let card = c.card-item.result in
+    let inv = c.loop-card.invariant in
+    let seen : c.as_slice-card-items.result.now ≡ held = c.as_slice-card-items.ensures.value ∙ ap (λ s. s.list.held) c.self.view_is in
+    let within = rw seen at c.loop-card-test.true in
+    let here = rw seen at c.card-item.is in
+    let more : take (i + 1) held ≡ take i held ++ card ∷ [] = take_more held i card within ∙ ap (λ d. take i held ++ d ∷ []) (sym here) in
+    record {
+      as_many = omega (arith, c.push.ensures.len, inv.as_many);
+      each = rw (more, c.push.ensures.items)
+          (say_push (g.F.Field.arithmetic pool.field) pool.policy pool.words (take i held) c.loop-card.equations.items card c.equation.result inv.each c.equation.ensures);
+    }
 
 pub returns : goal.returns
 returns g c =
     let pool = c.args.self.now in
-    let F = g.F.Field.arithmetic pool.field in
-    let ts = thresholds pool.policy in
-    let w = words_of pool.words in
-    let es = c.loop-i.equations in
-    let all : c.loop-i.i ≡ pool.len = omega arith in
-    record {
-      long = c.loop-i.invariant.0;
-      each = subst (λ (n : ℕ). AllSay F ts w (view w n pool.cards) (take n es)) all c.loop-i.invariant.1;
-    }
+    let seen : c.as_slice-card-items.result.now ≡ pool.list.held = c.as_slice-card-items.ensures.value ∙ ap (λ s. s.list.held) c.self.view_is in
+    let all = rw seen at c.loop-card-test.false in
+    rw take_all at c.loop-card.invariant.each

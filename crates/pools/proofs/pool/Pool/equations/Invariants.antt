@@ -1,12 +1,9 @@
 use Rattle.std.proofs.Common.{◌≡◌, length, take}
-use Rattle.sharing.specs.Dealings.{words_of}
 use Rattle.pools.specs.Equations.{AllSay}
-use Rattle.sharing.specs.Policies.{thresholds}
-use Rattle.pools.specs.Pools.{view}
 use Rattle.pools.proofs.pool.Pool.equations.Given as goal
 
-abbrev pub invariant-loop-i : goal.invariant-loop-i
-invariant-loop-i g l =
-    (length l.equations ≡ 64)
-    × AllSay (g.F.Field.arithmetic l.self.field) (thresholds l.self.policy) (words_of l.self.words)
-    (view (words_of l.self.words) l.i l.self.cards) (take l.i l.equations)
+abbrev pub invariant-loop-card : goal.invariant-loop-card
+invariant-loop-card g l = record {
+  as_many : length l.equations.items ≡ l.card-index;
+  each : AllSay (g.F.Field.arithmetic l.self.field) l.self.policy l.self.words (take l.card-index l.self.list.held) l.equations.items;
+}

@@ -1,7 +1,4 @@
 use Rattle.std.proofs.Common.{ℕ, ◌<◌, ◌≤◌, get_or}
-use Rattle.sharing.specs.Dealings.{words_of}
-use Rattle.sharing.specs.Policies.{thresholds}
-use Rattle.pools.specs.Pools.{card_list}
 use Rattle.pools.specs.Sessions.{up_to}
 use Rattle.pools.proofs.pool.Pool.meets_policy.Given as goal
 
@@ -9,5 +6,5 @@ use Rattle.pools.proofs.pool.Pool.meets_policy.Given as goal
 abbrev pub invariant-loop-level : goal.invariant-loop-level
 invariant-loop-level g l =
     (L : ℕ) → L < l.level
-    → get_or (thresholds l.self.policy) L 0 ≤ up_to (g.F.Field.arithmetic l.self.field) (thresholds l.self.policy) (words_of l.self.words) L (card_list l.self).held
+    → get_or l.self.policy L 0 ≤ up_to (g.F.Field.arithmetic l.self.field) l.self.policy l.self.words L l.self.list.held
     → ⊥

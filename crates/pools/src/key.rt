@@ -1,0 +1,40 @@
+// A key.
+ghost use Rattle.std.specs.Prelude.{◌≡◌};
+
+use sharing::words::{MOST_WORDS, WordCount};
+use std::marker::Model;
+
+// The first `count` places hold the words, and zeros follow.
+#[derive(Clone, Copy, PartialEq, Eq, Debug)]
+pub struct Key {
+    pub(crate) words: [u32; MOST_WORDS],
+    pub(crate) count: WordCount,
+}
+
+// Clauses see the list of the words.
+impl Model for Key {
+    ghost use Rattle.std.specs.Prelude.{◌≡◌, ℕ, ◌≤◌, ◌++◌, ◌-◌, List, length, take, drop, replicate};
+    ghost use Rattle.std.proofs.Common.{sym, refl, arith};
+    ghost use Rattle.std.proofs.lemmas.List.{length-take-le, take-append-drop};
+
+    ghost Value = { List ℕ };
+
+    ghost view = { λ k. take k.count k.words };
+
+    ghost invariant = { λ k. (length k.words ≡ 16) × (k.count ≤ 16) × (drop k.count k.words ≡ replicate (16 - k.count) 0) };
+
+    ghost inverse = { λ ks. record { words = ks ++ replicate (16 - length ks) 0; count = length ks } };
+
+    ghost inverse_ok = { λ k h.
+        let long = length-take-le k.count k.words (omega arith) in
+        rw (long, sym h.2, take-append-drop k.count k.words) refl };
+}
+
+impl Key {
+    // The words, in order.
+    pub fn as_slice(&self) -> &[u32]
+        ensures { result.now ≡ self.now }
+    {
+        &self.words[..self.count.get() as usize]
+    }
+}
