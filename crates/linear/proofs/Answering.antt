@@ -12,13 +12,13 @@ use Rattle.linear.specs.declared.equation.Form.{Form}
 use Rattle.linear.specs.declared.decide.Decision.{Decision}
 use Rattle.linear.specs.declared.decide.Decision.TheVariants.{Contradictory, Open, Decided}
 use Rattle.linear.specs.Solutions.{entry, EveryValuePossible, OneValue, Decides}
-use Rattle.linear.specs.Rows.{Zeros, Negation, Reading, Stands}
+use Rattle.linear.specs.Rows.{Zeros, Negation, Reading, InEchelonForm, Stands}
 use Rattle.linear.proofs.Systems as theory
-use Rattle.linear.proofs.Reduction.{Reduced, Knows, Asks}
+use Rattle.linear.proofs.Reduction.{Knows, Asks}
 use Rattle.linear.proofs.Verdicts.{knows_decided, knows_undecided}
 use Rattle.linear.proofs.Codes.{Code, el, el_neg, el_number, el_zero, field_of}
 use Rattle.linear.proofs.Reading.{row_of, basis_of, solves_to, solves_from, echelon_to}
-use Rattle.linear.proofs.Steps.{all_zero, not_zero}
+use Rattle.linear.proofs.Steps.{ReducedTo, all_zero, not_zero}
 use Rattle.linear.proofs.Decisions.{Reads, every_value, one_value}
 
 pub entry_zeros : (n j : ℕ) → entry (replicate n 0) j ≡ 0
@@ -28,21 +28,22 @@ entry_zeros (suc n) (suc j) = entry_zeros n j
 
 module _ (F : Arithmetic) (L : Laws F) (t w : ℕ) (rows : List (Option Equation)) (form : Form) (asked row : Equation)
     (left : asked.coefficients ≡ form.coefficients) (right : asked.right_sides ≡ replicate 16 0) (p : ℕ) (done : t ≤ p)
-    (h : Reduced (field_of F L) t w (basis_of F L rows) (row_of F L asked) p (row_of F L row)) (equations : List Equation) (stands : Stands F t w equations rows) where
+    (h : ReducedTo F L t w rows asked p row)
+    (ech : InEchelonForm F t rows) (equations : List Equation) (stands : Stands F t w equations rows) where
   asks : Asks (field_of F L) t w (λ k. el F L (entry form.coefficients k)) (row_of F L asked)
   asks = record {
     coefs = λ k l. ap (λ xs. el F L (entry xs k)) left;
     rhss = λ j l. ap (λ xs. el F L (entry xs j)) right ∙ ap (el F L) (entry_zeros 16 j) ∙ el_zero F L;
   }
 
-  reduced : Reduced (field_of F L) t w (basis_of F L rows) (row_of F L asked) t (row_of F L row)
+  reduced : ReducedTo F L t w rows asked t row
   reduced = record { agree = h.agree; clear = λ k l. h.clear k (omega arith) }
 
   known : Knows (field_of F L) t w (theory.Solves (field_of F L) t w (basis_of F L rows)) (basis_of F L rows)
-  known = record { echelon = echelon_to F L t w rows stands.echelon; same = λ y. ((λ s. s), λ s. s) }
+  known = record { echelon = echelon_to F L t w rows ech; same = λ y. ((λ s. s), λ s. s) }
 
   reads : Reads F L t w equations (theory.Solves (field_of F L) t w (basis_of F L rows))
-  reads x = ((λ s. (stands.same x).0 (solves_from F L t w rows x s)), λ s. solves_to F L t w rows x ((stands.same x).1 s))
+  reads x = ((λ s. (stands x).0 (solves_from F L t w rows x s)), λ s. solves_to F L t w rows x ((stands x).1 s))
 
   form_open : Zeros F t row.coefficients false → EveryValuePossible F t w equations form
   form_open (k, l, d) = every_value F L t w equations _ reads form (knows_undecided (field_of F L) t w _ _ known _ _ reduced asks k l (not_zero F L _ d))

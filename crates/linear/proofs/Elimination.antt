@@ -2,7 +2,7 @@
 --   agree_iff, agree_less    what rows that agree have in common
 --   less_below, less_here    what clearing a column leaves before it and there
 --   reduced_start, reduced_skip, reduced_step    the columns that have a row are cleared one by one
---   trimmed_start, trimmed_skip, trimmed_step    every column is made zero, one by one
+--   trimmed_skip, trimmed_step    every column is made zero, one by one
 --   agree_settles, redundant, contradiction    a row all of whose coefficients became zero
 --   put_echelon, put_solves, stored    a row scaled to one at its first column and stored there
 -- Assumes nothing.
@@ -99,9 +99,6 @@ module _ {V : Type 0} (F : Field V) (t w : ℕ) (b : Basis V) where
               λ m. put.1 (m.0, scale.0 ((agree_iff e r a x m.0).0 m.1)),
             ),
       )
-
-  pub trimmed_start : (e : Row V) → Trimmed F t w b e 0 e
-  trimmed_start e = record { agree = λ x s j l. refl; low = λ k l. absurd (omega arith) }
 
   pub trimmed_skip : {e r : Row V} (p q : ℕ) → q ≤ p + 1 → r.coef p ≡ zero → Trimmed F t w b e p r → Trimmed F t w b e q r
   trimmed_skip {e} {r} p q l i h = record {

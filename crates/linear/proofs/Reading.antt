@@ -6,7 +6,7 @@
 --   sum_below             a sum is an element
 --   satisfies_to/from, solves_to/from, echelon_to/from    each relation of numbers and the same of codes
 -- Assumes nothing.
-use Rattle.std.proofs.Common.{◌≡◌, ℕ, zero, suc, ◌%◌, ◌<◌, List, get_or, Some, None, Option, sym, refl, ap, ◌∙◌, mod-lt, mod-eq_of_lt, arith}
+use Rattle.std.proofs.Common.{◌≡◌, ℕ, zero, suc, ◌%◌, ◌<◌, List, get_or, Some, None, Option, sym, refl, ap, ◌∙◌, subst, mod-lt, mod-eq_of_lt, arith}
 use mathlib.Core.Path.{fun_ext}
 use Rattle.fields.specs.Arithmetic.{Arithmetic, Laws}
 use Rattle.fields.specs.Sums as sums
@@ -99,16 +99,17 @@ module _ (F : Arithmetic) (L : Laws F) where
   one_read : (n : ℕ) → el F L n ≡ (field_of F L).one → n % F.size ≡ 1
   one_read n e = sym (el_is 1 n (omega (arith, L.two_elements)) (el_one F L ∙ sym e))
 
-  leads_to : (p : ℕ) (o : Option Equation) → Leads F p o → theory.Leads (field_of F L) p (slot_of o)
+  leads_to : (p : ℕ) (o : Option Equation) → ((e : Equation) → o ≡ Some e → Leads F p e) → theory.Leads (field_of F L) p (slot_of o)
   leads_to p None h = tt
-  leads_to p (Some e) h = (reads_one _ h.0, λ k l. reads_zero _ (h.1 k l))
+  leads_to p (Some e) h = let lead = h e refl in (reads_one _ lead.0, λ k l. reads_zero _ (lead.1 k l))
 
-  leads_from : (p : ℕ) (o : Option Equation) → theory.Leads (field_of F L) p (slot_of o) → Leads F p o
-  leads_from p None h = tt
-  leads_from p (Some e) h = (one_read _ h.0, λ k l. zero_read _ (h.1 k l))
+  leads_from : (p : ℕ) (e : Equation) (o : Option Equation) → o ≡ Some e → theory.Leads (field_of F L) p (slot_of o) → Leads F p e
+  leads_from p e o is h =
+      let lead : theory.Leads (field_of F L) p (Some (row_of e)) = subst (λ s. theory.Leads (field_of F L) p (slot_of s)) is h in
+      (one_read _ lead.0, λ k l. zero_read _ (lead.1 k l))
 
   pub echelon_to : (t w : ℕ) (rows : List (Option Equation)) → InEchelonForm F t rows → Echelon (field_of F L) t w (basis_of rows)
-  echelon_to t w rows h p l = leads_to p (get_or rows p None) (h p l)
+  echelon_to t w rows h p l = leads_to p (get_or rows p None) (λ e is. h p e l is)
 
   pub echelon_from : (t w : ℕ) (rows : List (Option Equation)) → Echelon (field_of F L) t w (basis_of rows) → InEchelonForm F t rows
-  echelon_from t w rows h p l = leads_from p (get_or rows p None) (h p l)
+  echelon_from t w rows h p e l is = leads_from p e (get_or rows p None) is (h p l)

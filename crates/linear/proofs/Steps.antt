@@ -3,20 +3,25 @@
 --   scaled                scaling a row is a multiple of it, where its places before the column hold zeros
 --   no_inverse            a number without an inverse is read as zero
 --   all_zero, not_zero    what the test for zeros tells
---   trimmed_passed, trimmed_cleared, reduced_cleared    what one column does to the row under elimination
---   joined_stored, joined_redundant, clashes, leaves    what an insertion leaves, in its three ways
+--   TrimmedTo, ReducedTo  the row is the equation's, made zero before a column; or cleared at those that have a row
+--   joined                rows stand for the equation too
+--   slot                  what stands at a column of the rows
+--   trimmed_passed, trimmed_cleared, reduced_passed, reduced_cleared    what one column does to the row
+--   echelon_stored, joined_stored    a row that is stored leaves rows in echelon form, which stand for the equation too
+--   joined_redundant, clashes, leaves    what an insertion leaves where nothing is left of the row
 -- Assumes nothing.
 use Rattle.std.proofs.Common.{◌≡◌, ℕ, ◌+◌, ◌%◌, ◌<◌, ◌≤◌, true, false, ◌≢◌, ◌↔◌, List, length, get_or, set, Some, None, Option, Ok, Err, Result, sym, ap, ◌∙◌, subst, mod-lt, arith, get_or-set_other, get_or-set_same}
 use native.Mathlib.Decide.{dec_lt, ℕ_discrete}
+use Rattle.std.proofs.lemmas.List.{get_or_default}
 use Rattle.fields.specs.Arithmetic.{Arithmetic, Laws}
 use Rattle.linear.specs.declared.equation.Equation.{Equation}
-use Rattle.linear.specs.declared.row.Contradiction.{Contradiction}
+use Rattle.linear.specs.declared.system.Contradiction.{Contradiction}
 use Rattle.linear.specs.Solutions.{entry}
-use Rattle.linear.specs.Rows.{Rewritten, plus, times, Zeros, InEchelonForm, Leftover, Joined, Clash, Inserts}
+use Rattle.linear.specs.Rows.{Cleared, Scaled, Zeros, InEchelonForm, Leftover, Joined, Clash, Inserts}
 use Rattle.linear.proofs.Systems as theory
 use Rattle.linear.proofs.Reduction.{Less, Times, Trimmed, Reduced, Put}
 use Rattle.linear.proofs.Values.{neg_mul, mul_zero, neg_zero}
-use Rattle.linear.proofs.Elimination.{redundant, contradiction, stored, trimmed_skip, trimmed_step, reduced_step}
+use Rattle.linear.proofs.Elimination.{redundant, contradiction, stored, trimmed_skip, trimmed_step, reduced_skip, reduced_step}
 use Rattle.linear.proofs.Codes.{Code, el, el_add, el_neg, el_mul, el_zero, el_one, el_same, field_of}
 use Rattle.linear.proofs.Reading.{read, row_of, slot_of, basis_of, el_rem, reads_zero, satisfies_to, satisfies_from, solves_to, solves_from, echelon_to, echelon_from, size_positive}
 
@@ -27,28 +32,24 @@ module _ (F : Arithmetic) (L : Laws F) where
       el_add F L a _ ∙ ap ((field_of F L).add (el F L a)) (el_mul F L _ b ∙ ap (λ n. (field_of F L).mul n (el F L b)) (el_neg F L c) ∙ neg_mul (field_of F L) (el F L c) (el F L b))
 
   module _ (t w p : ℕ) (row after : Equation) where
-    pub cleared : (pivot : Equation) → theory.Leads (field_of F L) p (Some (row_of F L pivot))
-        → Rewritten (plus F (F.neg (entry row.coefficients p)) pivot.coefficients row.coefficients) p t row.coefficients after.coefficients
-        → Rewritten (plus F (F.neg (entry row.coefficients p)) pivot.right_sides row.right_sides) 0 w row.right_sides after.right_sides
+    pub cleared : (pivot : Equation) → theory.Leads (field_of F L) p (Some (row_of F L pivot)) → Cleared F t w p pivot row after
         → Less (field_of F L) t w (row_of F L row) ((row_of F L row).coef p) (row_of F L pivot) (row_of F L after)
-    cleared pivot lead left right = record {
+    cleared pivot lead c = record {
       coefs = λ k m. elim (dec_lt k p) [
-        | yes l ↦ ap (el F L) (left.below k l) ∙ sym (simp (lead.1 k l, mul_zero (field_of F L), neg_zero (field_of F L), (field_of F L).add_zero))
-        | no d ↦ ap (el F L) (left.inside k (omega arith) m) ∙ plus_read _ _ _
+        | yes l ↦ ap (el F L) (c.left.below k l) ∙ sym (simp (lead.1 k l, mul_zero (field_of F L), neg_zero (field_of F L), (field_of F L).add_zero))
+        | no d ↦ ap (el F L) (c.left.inside k (omega arith) m) ∙ plus_read _ _ _
       ];
-      rhss = λ j m. ap (el F L) (right.inside j (omega arith) m) ∙ plus_read _ _ _;
+      rhss = λ j m. ap (el F L) (c.right.inside j (omega arith) m) ∙ plus_read _ _ _;
     }
 
-    pub scaled : (factor : ℕ) → ((k : ℕ) → k < p → (row_of F L row).coef k ≡ (field_of F L).zero)
-        → Rewritten (times F factor row.coefficients) p t row.coefficients after.coefficients
-        → Rewritten (times F factor row.right_sides) 0 w row.right_sides after.right_sides
+    pub scaled : (factor : ℕ) → ((k : ℕ) → k < p → (row_of F L row).coef k ≡ (field_of F L).zero) → Scaled F t w p factor row after
         → Times (field_of F L) t w (el F L factor) (row_of F L row) (row_of F L after)
-    scaled factor low left right = record {
+    scaled factor low s = record {
       coefs = λ k m. elim (dec_lt k p) [
-        | yes l ↦ ap (el F L) (left.below k l) ∙ low k l ∙ sym (ap ((field_of F L).mul (el F L factor)) (low k l) ∙ mul_zero (field_of F L) _)
-        | no d ↦ ap (el F L) (left.inside k (omega arith) m) ∙ el_mul F L _ _
+        | yes l ↦ ap (el F L) (s.left.below k l) ∙ low k l ∙ sym (ap ((field_of F L).mul (el F L factor)) (low k l) ∙ mul_zero (field_of F L) _)
+        | no d ↦ ap (el F L) (s.left.inside k (omega arith) m) ∙ el_mul F L _ _
       ];
-      rhss = λ j m. ap (el F L) (right.inside j (omega arith) m) ∙ el_mul F L _ _;
+      rhss = λ j m. ap (el F L) (s.right.inside j (omega arith) m) ∙ el_mul F L _ _;
     }
 
   pub no_inverse : (n : ℕ) → F.inv n ≡ None → el F L n ≡ (field_of F L).zero
@@ -87,38 +88,69 @@ module _ (F : Arithmetic) (L : Laws F) where
   not_zero n d e = d (el_same F L _ 0 (L.add_below n 0) (size_positive F L) (added_zero n ∙ e ∙ sym (el_zero F L)))
 
   module _ (t w : ℕ) (rows : List (Option Equation)) (e : Equation) where
-    joined : (after : List (Option Equation)) → theory.Echelon (field_of F L) t w (basis_of F L after)
+    abbrev pub TrimmedTo : ℕ → Equation → Type 0
+    TrimmedTo p row = Trimmed (field_of F L) t w (basis_of F L rows) (row_of F L e) p (row_of F L row)
+
+    abbrev pub ReducedTo : ℕ → Equation → Type 0
+    ReducedTo p row = Reduced (field_of F L) t w (basis_of F L rows) (row_of F L e) p (row_of F L row)
+
+    joined : (after : List (Option Equation))
         → ((y : theory.Assignment (Code F)) → theory.Solves (field_of F L) t w (basis_of F L after) y ↔ (theory.Solves (field_of F L) t w (basis_of F L rows) y × theory.Satisfies (field_of F L) t w (row_of F L e) y))
         → Joined F t w rows e after
-    joined after ech same = record {
-      echelon = echelon_from F L t w after ech;
-      same = λ x. (
-        (λ s. let both = (same (read F L x)).0 (solves_to F L t w after x s) in (solves_from F L t w rows x both.0, satisfies_from F L t w e x both.1)),
-        λ s. solves_from F L t w after x ((same (read F L x)).1 (solves_to F L t w rows x s.0, satisfies_to F L t w e x s.1)),
-      );
-    }
+    joined after same x = (
+      (λ s. let both = (same (read F L x)).0 (solves_to F L t w after x s) in (solves_from F L t w rows x both.0, satisfies_from F L t w e x both.1)),
+      λ s. solves_from F L t w after x ((same (read F L x)).1 (solves_to F L t w rows x s.0, satisfies_to F L t w e x s.1)),
+    )
 
-    module _ (ech : InEchelonForm F t rows) (row : Equation) where
-      pub joined_stored : (p v : ℕ) (after : Equation) (filled : List (Option Equation)) → p < t → p < length rows → get_or rows p None ≡ None
-          → Trimmed (field_of F L) t w (basis_of F L rows) (row_of F L e) p (row_of F L row) → F.inv (entry row.coefficients p) ≡ Some v
-          → Rewritten (times F v row.coefficients) p t row.coefficients after.coefficients
-          → Rewritten (times F v row.right_sides) 0 w row.right_sides after.right_sides
-          → filled ≡ set rows p (Some after) → Joined F t w rows e filled
-      joined_stored p v after filled l within free h inv left right is =
-          let put : Put (field_of F L) t w (basis_of F L rows) p (row_of F L after) (basis_of F L filled) = record {
-            here = ap (λ r. slot_of F L (get_or r p None)) is ∙ ap (slot_of F L) (get_or-set_same rows p (Some after) None within);
-            elsewhere = λ q m d. ap (λ r. slot_of F L (get_or r q None)) is ∙ ap (slot_of F L) (get_or-set_other rows p q (Some after) None d);
-          } in
-          let (done, same) = stored (field_of F L) t w (basis_of F L rows) (row_of F L e) (row_of F L row) p (el F L v) l (echelon_to F L t w rows ech) h.agree (ap (slot_of F L) free) h.low (inverse_read _ v inv) (scaled t w p row after v h.low left right) put in
-          joined filled done same
+    -- what stands at a column of the rows is what was read there, at whatever default
+    slot : (p : ℕ) → p < length rows → (d o : Option Equation) → get_or rows p d ≡ o → basis_of F L rows p ≡ slot_of F L o
+    slot p within d o is = ap (slot_of F L) (get_or_default rows p None d within ∙ is)
 
-      module _ (p : ℕ) (done : t ≤ p) (h : Trimmed (field_of F L) t w (basis_of F L rows) (row_of F L e) p (row_of F L row)) where
+    pub reduced_passed : (row : Equation) (p : ℕ) → p < length rows → (d : Option Equation) → get_or rows p d ≡ None → ReducedTo p row → ReducedTo (p + 1) row
+    reduced_passed row p within d is h = reduced_skip (field_of F L) t w _ p (p + 1) (omega arith) (slot p within d None is) h
+
+    pub trimmed_passed : (row : Equation) (p : ℕ) → F.inv (entry row.coefficients p) ≡ None → TrimmedTo p row → TrimmedTo (p + 1) row
+    trimmed_passed row p none h = trimmed_skip (field_of F L) t w _ p (p + 1) (omega arith) (no_inverse _ none) h
+
+    module _ (ech : InEchelonForm F t rows) (row : Equation) (p : ℕ) where
+      module _ (l : p < t) (within : p < length rows) (d : Option Equation) where
+        module _ (pivot after : Equation) (is : get_or rows p d ≡ Some pivot) (c : Cleared F t w p pivot row after) where
+          here : basis_of F L rows p ≡ Some (row_of F L pivot)
+          here = slot p within d (Some pivot) is
+
+          lead : theory.Leads (field_of F L) p (Some (row_of F L pivot))
+          lead = subst (theory.Leads (field_of F L) p) here (echelon_to F L t w rows ech p l)
+
+          pub trimmed_cleared : TrimmedTo p row → TrimmedTo (p + 1) after
+          trimmed_cleared h = trimmed_step (field_of F L) t w _ p (p + 1) (omega arith) l lead here (cleared t w p row after pivot lead c) h
+
+          pub reduced_cleared : ReducedTo p row → ReducedTo (p + 1) after
+          reduced_cleared h = reduced_step (field_of F L) t w _ p (p + 1) (omega arith) l lead here (cleared t w p row after pivot lead c) h
+
+        module _ (free : get_or rows p d ≡ None) (v : ℕ) (inv : F.inv (entry row.coefficients p) ≡ Some v) (after : Equation) (s : Scaled F t w p v row after) (h : TrimmedTo p row) where
+          put : Put (field_of F L) t w (basis_of F L rows) p (row_of F L after) (basis_of F L (set rows p (Some after)))
+          put = record {
+            here = ap (slot_of F L) (get_or-set_same rows p (Some after) None within);
+            elsewhere = λ q m n. ap (slot_of F L) (get_or-set_other rows p q (Some after) None n);
+          }
+
+          filled : theory.Echelon (field_of F L) t w (basis_of F L (set rows p (Some after)))
+              × ((y : theory.Assignment (Code F)) → theory.Solves (field_of F L) t w (basis_of F L (set rows p (Some after))) y ↔ (theory.Solves (field_of F L) t w (basis_of F L rows) y × theory.Satisfies (field_of F L) t w (row_of F L e) y))
+          filled = stored (field_of F L) t w (basis_of F L rows) (row_of F L e) (row_of F L row) p (el F L v) l (echelon_to F L t w rows ech) h.agree (slot p within d None free) h.low (inverse_read _ v inv) (scaled t w p row after v h.low s) put
+
+          pub echelon_stored : InEchelonForm F t (set rows p (Some after))
+          echelon_stored = echelon_from F L t w _ filled.0
+
+          pub joined_stored : Joined F t w rows e (set rows p (Some after))
+          joined_stored = joined _ filled.1
+
+      module _ (done : t ≤ p) (h : TrimmedTo p row) where
         low : (k : ℕ) → k < t → (row_of F L row).coef k ≡ (field_of F L).zero
         low k l = h.low k (omega arith)
 
         joined_redundant : Zeros F w row.right_sides true → Joined F t w rows e rows
         joined_redundant z =
-            joined rows (echelon_to F L t w rows ech) (λ y. ((λ s. (s, redundant (field_of F L) t w _ (row_of F L e) (row_of F L row) h.agree low (all_zero w row.right_sides z) y s)), λ s. s.0))
+            joined rows (λ y. ((λ s. (s, redundant (field_of F L) t w _ (row_of F L e) (row_of F L row) h.agree low (all_zero w row.right_sides z) y s)), λ s. s.0))
 
         clashes : Zeros F w row.right_sides false → Clash F t w rows e
         clashes (j, l, d) x s m =
@@ -127,21 +159,3 @@ module _ (F : Arithmetic) (L : Laws F) where
         pub leaves : (r : Result (Unit {0}) Contradiction) → Leftover F w row r → Inserts F t w rows e rows r
         leaves (Ok _) z = joined_redundant z
         leaves (Err _) z = clashes z
-
-      pub trimmed_passed : (p : ℕ) → F.inv (entry row.coefficients p) ≡ None → Trimmed (field_of F L) t w (basis_of F L rows) (row_of F L e) p (row_of F L row) → Trimmed (field_of F L) t w (basis_of F L rows) (row_of F L e) (p + 1) (row_of F L row)
-      trimmed_passed p none h = trimmed_skip (field_of F L) t w _ p (p + 1) (omega arith) (no_inverse _ none) h
-
-      module _ (p : ℕ) (l : p < t) (pivot after : Equation) (is : get_or rows p None ≡ Some pivot)
-          (left : Rewritten (plus F (F.neg (entry row.coefficients p)) pivot.coefficients row.coefficients) p t row.coefficients after.coefficients)
-          (right : Rewritten (plus F (F.neg (entry row.coefficients p)) pivot.right_sides row.right_sides) 0 w row.right_sides after.right_sides) where
-        slot : basis_of F L rows p ≡ Some (row_of F L pivot)
-        slot = ap (slot_of F L) is
-
-        lead : theory.Leads (field_of F L) p (Some (row_of F L pivot))
-        lead = subst (theory.Leads (field_of F L) p) slot (echelon_to F L t w rows ech p l)
-
-        pub trimmed_cleared : Trimmed (field_of F L) t w (basis_of F L rows) (row_of F L e) p (row_of F L row) → Trimmed (field_of F L) t w (basis_of F L rows) (row_of F L e) (p + 1) (row_of F L after)
-        trimmed_cleared h = trimmed_step (field_of F L) t w _ p (p + 1) (omega arith) l lead slot (cleared t w p row after pivot lead left right) h
-
-        pub reduced_cleared : Reduced (field_of F L) t w (basis_of F L rows) (row_of F L e) p (row_of F L row) → Reduced (field_of F L) t w (basis_of F L rows) (row_of F L e) (p + 1) (row_of F L after)
-        reduced_cleared h = reduced_step (field_of F L) t w _ p (p + 1) (omega arith) l lead slot (cleared t w p row after pivot lead left right) h

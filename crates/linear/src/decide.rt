@@ -2,9 +2,9 @@
 ghost use Rattle.std.specs.Prelude.{◌≡◌, List};
 ghost use Rattle.linear.specs.Solutions.{Decides, SameMembers};
 
-use crate::echelon::eliminate;
 use crate::equation::{Equation, Form};
 use crate::shape::Shape;
+use crate::system::System;
 use fields::Field;
 
 #[derive(Clone, Copy, PartialEq, Eq, Debug)]
@@ -23,5 +23,5 @@ pub fn decide<F: Field>(field: &F, shape: Shape, equations: &[Equation], form: &
     ensures only { (d : Decision) → Decides (F.Field.arithmetic field.now) shape.unknowns shape.right_sides equations.now form.now d → d ≡ result }
     ensures in_any_order { (others : List Equation) → SameMembers equations.now others → Decides (F.Field.arithmetic field.now) shape.unknowns shape.right_sides others form.now result }
 {
-    eliminate(field, shape, equations, form)
+    System { field, shape }.eliminate(equations, form)
 }

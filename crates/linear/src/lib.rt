@@ -5,6 +5,6 @@ pub mod decide;
 mod echelon;
 pub mod equation;
 mod numbers;
-mod row;
 pub mod shape;
+mod system;
 pub mod theorems;

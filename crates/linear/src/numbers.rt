@@ -1,61 +1,48 @@
-// Steps on numbers that stand for elements of a field, place by place.
-ghost use Rattle.std.specs.Prelude.{◌≤◌, length};
-ghost use Rattle.linear.specs.Rows.{Rewritten, plus, times, negated, Zeros};
+// Steps on numbers that stand for elements of the field, place by place.
+ghost use Rattle.std.specs.Prelude.{◌≡◌, ℕ, ◌≤◌, ◌<◌, length, EachIndex, slice_index};
+ghost use Rattle.linear.specs.Rows.{plus, times, negated, Zeros};
 
+use crate::system::System;
 use fields::Field;
 
-// Adds the multiple of the others to the numbers, from one place to before another.
-pub(crate) fn add_multiple<F: Field>(
-    field: &F,
-    numbers: &mut [u32],
-    factor: u32,
-    others: &[u32],
-    from: usize,
-    to: usize,
-)
-    requires ordered { from ≤ to }
-    requires within { (to ≤ length numbers.old) × (to ≤ length others.now) }
-    ensures { Rewritten (plus (F.Field.arithmetic field.now) factor others.now numbers.old) from to numbers.old numbers.new }
+// Puts in the place of each number what the step gives for it there.
+fn rewrite<S: Fn(usize, u32) -> u32>(numbers: &mut [u32], step: S)
+    requires { (k a : ℕ) → k < length numbers.old → S.pre step k a }
+    ensures { EachIndex numbers.old (λ k. S.post step k (slice_index numbers.old k) (slice_index numbers.new k)) }
 {
-    for k in from..to {
-        numbers[k] = field.add(numbers[k], field.multiply(factor, others[k]));
+    for (k, number) in numbers.iter_mut().enumerate() {
+        *number = step(k, *number);
     }
 }
 
-pub(crate) fn multiply_all<F: Field>(
-    field: &F,
-    numbers: &mut [u32],
-    factor: u32,
-    from: usize,
-    to: usize,
-)
-    requires ordered { from ≤ to }
-    requires within { to ≤ length numbers.old }
-    ensures { Rewritten (times (F.Field.arithmetic field.now) factor numbers.old) from to numbers.old numbers.new }
-{
-    for k in from..to {
-        numbers[k] = field.multiply(factor, numbers[k]);
+impl<'a, F: Field> System<'a, F> {
+    // Adds the multiple of the others.
+    pub(crate) fn add_multiple(&self, numbers: &mut [u32], factor: u32, others: &[u32])
+        requires { length numbers.old ≤ length others.now }
+        ensures { EachIndex numbers.old (λ k. slice_index numbers.new k ≡ plus (F.arithmetic self.now.field.now) factor others.now numbers.old k) }
+    {
+        rewrite(
+            numbers,
+            |k, a| self.field.add(a, self.field.multiply(factor, others[k])),
+        );
     }
-}
 
-pub(crate) fn negate_all<F: Field>(field: &F, numbers: &mut [u32], to: usize)
-    requires { to ≤ length numbers.old }
-    ensures { Rewritten (negated (F.Field.arithmetic field.now) numbers.old) 0 to numbers.old numbers.new }
-{
-    for k in 0..to {
-        numbers[k] = field.negate(numbers[k]);
+    pub(crate) fn multiply_all(&self, numbers: &mut [u32], factor: u32)
+        ensures { EachIndex numbers.old (λ k. slice_index numbers.new k ≡ times (F.arithmetic self.now.field.now) factor numbers.old k) }
+    {
+        rewrite(numbers, |_, a| self.field.multiply(factor, a));
     }
-}
 
-// Whether each of the first numbers stands for zero.
-pub(crate) fn all_zero<F: Field>(field: &F, numbers: &[u32], to: usize) -> bool
-    requires { to ≤ length numbers.now }
-    ensures { Zeros (F.Field.arithmetic field.now) to numbers.now result }
-{
-    for k in 0..to {
-        if field.add(numbers[k], 0) != 0 {
-            return false;
-        }
+    pub(crate) fn negate_all(&self, numbers: &mut [u32])
+        ensures { EachIndex numbers.old (λ k. slice_index numbers.new k ≡ negated (F.arithmetic self.now.field.now) numbers.old k) }
+    {
+        rewrite(numbers, |_, a| self.field.negate(a));
     }
-    true
+
+    // Whether each of the numbers stands for zero.
+    pub(crate) fn all_zero(&self, numbers: &[u32]) -> bool
+        ensures { Zeros (F.arithmetic self.now.field.now) (length numbers.now) numbers.now result }
+    {
+        numbers.iter().all(|a| self.field.add(*a, 0) == 0)
+    }
 }

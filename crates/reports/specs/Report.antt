@@ -1,6 +1,4 @@
 -- The text of a report, as bytes. Every line ends with a newline, and numbers are in decimal.
---   refused_list      the cards that a report lists
---   key_words         the words of a key
 --   header_line       the first line: what the tray says before its cards
 --   refused_line      a card that the pool turned away
 --   counts_line       how many cards are held, and how many were turned away
@@ -8,36 +6,26 @@
 --   fault_line        what stopped a run, by its number, who refused, and where
 --   report_text       the whole text: the first line if there is one, the refused cards, and how the run came out
 -- Assumes nothing.
-use Rattle.std.specs.Prelude.{ℕ, List, [], ◌∷◌, ◌++◌, take, Some, None, codes, decimal, Option}
+use Rattle.std.specs.Prelude.{ℕ, List, [], ◌∷◌, ◌++◌, Some, None, Ok, Err, codes, decimal, Option, Result}
 use Rattle.std.specs.List.{flat_map}
 use Rattle.sharing.specs.Refusals.{number}
-use Rattle.reports.specs.declared.report.Conclusion.{Conclusion}
-use Rattle.reports.specs.declared.report.Conclusion.TheVariants as conclusion
+use Rattle.pools.specs.declared.judgement.Judgement.{Judgement}
+use Rattle.pools.specs.declared.judgement.Judgement.TheVariants as judgement
+use Rattle.trays.specs.Fields.{field_number}
 use Rattle.reports.specs.declared.report.Header.{Header}
-use Rattle.reports.specs.declared.report.Key.{Key}
+use Rattle.reports.specs.declared.report.Judged.{Judged}
 use Rattle.reports.specs.declared.report.Layer.{Layer}
 use Rattle.reports.specs.declared.report.Layer.TheVariants as layer
-use Rattle.reports.specs.declared.report.Outcome.{Outcome}
-use Rattle.reports.specs.declared.report.Outcome.TheVariants as outcome
 use Rattle.reports.specs.declared.report.RefusedCard.{RefusedCard}
-use Rattle.reports.specs.declared.report.RefusedCards.{RefusedCards}
 use Rattle.reports.specs.declared.report.Stop.{Stop}
 use Rattle.reports.specs.declared.report.TrayReport.{TrayReport}
-
--- the cards that a report lists
-abbrev pub refused_list : RefusedCards → List RefusedCard
-refused_list r = take r.count r.cards
-
--- the words of a key
-abbrev pub key_words : Key → List ℕ
-key_words k = take k.count k.words
 
 abbrev pub newline : List ℕ
 newline = 10 ∷ []
 
 abbrev pub header_line : Header → List ℕ
 header_line h =
-    codes "field " ++ (decimal h.field ++ (codes " levels " ++ (decimal h.levels ++ (codes " words " ++ (decimal h.words ++ (codes " cards " ++ (decimal h.cards ++ newline)))))))
+    codes "field " ++ (decimal (field_number h.field) ++ (codes " levels " ++ (decimal h.levels ++ (codes " words " ++ (decimal h.words ++ (codes " cards " ++ (decimal h.cards ++ newline)))))))
 
 abbrev pub refused_line : RefusedCard → List ℕ
 refused_line c =
@@ -49,10 +37,10 @@ counts_line held turned = codes "held " ++ (decimal held ++ (codes " turned " ++
 abbrev pub words_text : List ℕ → List ℕ
 words_text words = flat_map (λ v. codes " " ++ decimal v) words
 
-abbrev pub verdict_line : Outcome → List ℕ
-verdict_line outcome.Contradictory = codes "contradictory" ++ newline
-verdict_line outcome.Open = codes "open" ++ newline
-verdict_line (outcome.Key k) = codes "key" ++ (words_text (key_words k) ++ newline)
+abbrev pub verdict_line : Judgement (List ℕ) → List ℕ
+verdict_line judgement.Contradictory = codes "contradictory" ++ newline
+verdict_line judgement.Open = codes "open" ++ newline
+verdict_line (judgement.Key k) = codes "key" ++ (words_text k ++ newline)
 
 abbrev pub layer_name : Layer → List ℕ
 layer_name layer.Reader = codes "reader"
@@ -67,10 +55,9 @@ abbrev pub header_text : Option Header → List ℕ
 header_text None = []
 header_text (Some h) = header_line h
 
-abbrev pub conclusion_text : Conclusion → List ℕ
-conclusion_text (conclusion.Judged held turned o) = counts_line held turned ++ verdict_line o
-conclusion_text (conclusion.Stopped s) = fault_line s
+abbrev pub conclusion_text : Result Judged Stop → List ℕ
+conclusion_text (Ok j) = counts_line j.held j.turned ++ verdict_line j.verdict
+conclusion_text (Err s) = fault_line s
 
 abbrev pub report_text : TrayReport → List ℕ
-report_text r =
-    header_text r.header ++ (flat_map refused_line (refused_list r.refused) ++ conclusion_text r.conclusion)
+report_text r = header_text r.header ++ (flat_map refused_line r.refused.items ++ conclusion_text r.conclusion)

@@ -1,8 +1,7 @@
 -- What a run of a tray reports, from the parts that the tray's bytes are and how they end.
---   arithmetic_of      the arithmetic that a field byte names
+--   arithmetic_of      the arithmetic of a tray's field
 --   TurnedAway         a card that the pool turned away, with the number of the reason
 --   turned_by          those that a report lists
---   verdict_of         what a report says of the key
 --   card_in            the card that a part is
 --   list_after         the card list after these cards are presented
 --   turned_from        the cards that are turned away, each while those before it were presented
@@ -14,30 +13,30 @@
 --   opening            the parts before the cards
 --   Reports            a report is that of these parts with this ending
 -- Assumes nothing.
-use Rattle.std.specs.Prelude.{◌≡◌, ℕ, ◌+◌, ◌<◌, cond, List, [], ◌∷◌, ◌++◌, map, length, Some, None, Option, ◌==◌}
+use Rattle.std.specs.Prelude.{◌≡◌, ℕ, ◌+◌, ◌<◌, List, [], ◌∷◌, ◌++◌, map, length, Some, None, Ok, Err, Option, Result}
 use Rattle.fields.specs.Arithmetic.{Arithmetic}
 use Rattle.fields.specs.Bytes.{bytes}
 use Rattle.fields.specs.Modulo.{wide}
 use Rattle.sharing.specs.Cards.{Card, Every}
 use Rattle.sharing.specs.Refusals.{number, refuses_policy}
 use Rattle.pools.specs.Sessions.{CardList, none_yet, present, refuses_card, after}
-use Rattle.pools.specs.Verdicts.{Verdict, contradictory, undecided, decided, Right}
+use Rattle.pools.specs.Judging.{verdict_of}
+use Rattle.pools.specs.Verdicts.{Right}
 use Rattle.trays.specs.Cards.{level_in, id_in, values_in}
 use Rattle.trays.specs.Layout.{Part, field, thresholds, words, card_count, card, written, Ending, ended, fault, Placed, placed}
-use Rattle.reports.specs.Report.{refused_list, key_words}
-use Rattle.reports.specs.declared.report.Conclusion.{Conclusion}
-use Rattle.reports.specs.declared.report.Conclusion.TheVariants as conclusion
+use Rattle.trays.specs.Fields.{field_number}
+use Rattle.trays.specs.declared.field.TrayField.{TrayField}
+use Rattle.trays.specs.declared.field.TrayField.TheVariants.{Bytes, Wide}
+use Rattle.reports.specs.declared.report.Judged.{Judged}
 use Rattle.reports.specs.declared.report.Layer.{Layer}
 use Rattle.reports.specs.declared.report.Layer.TheVariants as layer
-use Rattle.reports.specs.declared.report.Outcome.{Outcome}
-use Rattle.reports.specs.declared.report.Outcome.TheVariants as outcome
 use Rattle.reports.specs.declared.report.RefusedCard.{RefusedCard}
-use Rattle.reports.specs.declared.report.RefusedCards.{RefusedCards}
 use Rattle.reports.specs.declared.report.Stop.{Stop}
 use Rattle.reports.specs.declared.report.TrayReport.{TrayReport}
 
-abbrev pub arithmetic_of : ℕ → Arithmetic
-arithmetic_of code = cond (code == 1) bytes wide
+abbrev pub arithmetic_of : TrayField → Arithmetic
+arithmetic_of Bytes = bytes
+arithmetic_of Wide = wide
 
 -- the ordinal counts the tray's cards from 1
 pub record TurnedAway : Type 0 where
@@ -48,13 +47,8 @@ pub record TurnedAway : Type 0 where
 abbrev pub turned_card : RefusedCard → TurnedAway
 turned_card c = record { ordinal = c.ordinal; offset = c.offset; reason = number c.refusal }
 
-abbrev pub turned_by : RefusedCards → List TurnedAway
-turned_by r = map turned_card (refused_list r)
-
-abbrev pub verdict_of : Outcome → Verdict
-verdict_of outcome.Contradictory = contradictory
-verdict_of outcome.Open = undecided
-verdict_of (outcome.Key k) = decided (key_words k)
+abbrev pub turned_by : List RefusedCard → List TurnedAway
+turned_by cards = map turned_card cards
 
 abbrev pub card_in : ℕ → List ℕ → Card
 card_in w bytes = record { level = level_in bytes; id = id_in bytes; values = values_in w bytes }
@@ -74,21 +68,18 @@ module _ (F : Arithmetic) (ts : List ℕ) (w : ℕ) where
   turned_from before (p ∷ ps) =
       told (length before + 1) p.offset (refuses_card F ts w (list_after before).held (card_in w (written p.part))) ++ turned_from (before ++ p ∷ []) ps
 
-  abbrev pub Judges : CardList → Conclusion → Type 0
-  Judges s (conclusion.Judged held turned outcome) = (held ≡ length s.held) × (turned ≡ s.turned) × Right F ts w s.held (verdict_of outcome)
-  Judges s (conclusion.Stopped stop) = ⊥
+  abbrev pub Judges : CardList → Judged → Type 0
+  Judges s j = (j.held ≡ length s.held) × (j.turned ≡ s.turned) × Right F ts w s.held (verdict_of j.verdict)
 
 abbrev pub Stops : ℕ → Layer → ℕ → Stop → Type 0
 Stops n l at s = (number s.refusal ≡ n) × (s.layer ≡ l) × (s.offset ≡ at)
 
-abbrev pub StoppedBy : ℕ → ℕ → Conclusion → Type 0
-StoppedBy n at (conclusion.Judged held turned outcome) = ⊥
-StoppedBy n at (conclusion.Stopped stop) = Stops n layer.Reader at stop
-
 module _ (F : Arithmetic) (ts : List ℕ) (w : ℕ) where
-  abbrev pub Concludes : List Placed → Ending → Conclusion → Type 0
-  Concludes cards ended c = Judges F ts w (list_after F ts w cards) c
-  Concludes cards (fault n at) c = StoppedBy n at c
+  abbrev pub Concludes : List Placed → Ending → Result Judged Stop → Type 0
+  Concludes cards ended (Ok j) = Judges F ts w (list_after F ts w cards) j
+  Concludes cards ended (Err s) = ⊥
+  Concludes cards (fault n at) (Ok j) = ⊥
+  Concludes cards (fault n at) (Err s) = Stops n layer.Reader at s
 
 abbrev pub refuses : Part → Option ℕ
 refuses (field b) = None
@@ -108,9 +99,9 @@ abbrev pub opening : ℕ → List ℕ → ℕ → ℕ → List Placed
 opening b ts w n = placed 0 (field b ∷ thresholds ts ∷ words w ∷ card_count n ∷ [])
 
 pub data Reports (parts : List Placed) (e : Ending) (r : TrayReport) : Type 0 where
-  stopped_early : (s : Stop) → StopsEarly parts e s → r.header ≡ None → turned_by r.refused ≡ [] → r.conclusion ≡ conclusion.Stopped s → Reports parts e r
-  opened : (b : ℕ) (ts : List ℕ) (w n : ℕ) (cards : List Placed) → parts ≡ opening b ts w n ++ cards → refuses_policy ts ≡ None
-      → r.header ≡ Some (record { field = b; levels = length ts; words = w; cards = n })
-      → turned_by r.refused ≡ turned_from (arithmetic_of b) ts w [] cards
-      → Concludes (arithmetic_of b) ts w cards e r.conclusion
+  stopped_early : (s : Stop) → StopsEarly parts e s → r.header ≡ None → turned_by r.refused.items ≡ [] → r.conclusion ≡ Err s → Reports parts e r
+  opened : (f : TrayField) (ts : List ℕ) (w n : ℕ) (cards : List Placed) → parts ≡ opening (field_number f) ts w n ++ cards → refuses_policy ts ≡ None
+      → r.header ≡ Some (record { field = f; levels = length ts; words = w; cards = n })
+      → turned_by r.refused.items ≡ turned_from (arithmetic_of f) ts w [] cards
+      → Concludes (arithmetic_of f) ts w cards e r.conclusion
       → Reports parts e r

@@ -7,10 +7,9 @@
 --   PresentsTo    what presenting the cards gives
 -- Assumes nothing.
 use Rattle.std.specs.Prelude.{◌≡◌, ℕ, List, ◌++◌, None, Ok, Err, Result}
-use Rattle.sharing.specs.Dealings.{words_of}
-use Rattle.sharing.specs.Policies.{thresholds}
 use Rattle.sharing.specs.Refusals.{refuses_policy}
 use Rattle.trays.specs.Answers.{Reading}
+use Rattle.trays.specs.Fields.{field_number}
 use Rattle.trays.specs.Layout.{Ending, ended, fault, Placed, at_field, at_cards, Reads}
 use Rattle.reports.specs.Runs.{StopsEarly, Stops, opening}
 use Rattle.reports.specs.declared.opening.Opening.{Opening}
@@ -25,8 +24,8 @@ abbrev pub ToCome : ℕ → ℕ → List Placed → Ending → Type 0
 ToCome w n cards e = (at : ℕ) × (bytes : List ℕ) × Reads (at_cards w n) at bytes cards e
 
 pub record OpensAs (o : Opening) (t : TrayReader) (parts : List Placed) (e : Ending) (cards : List Placed) : Type 0 where
-  pub parts_are : parts ≡ opening o.field (thresholds o.policy) (words_of o.words) o.cards ++ cards
-  pub fits : refuses_policy (thresholds o.policy) ≡ None
+  pub parts_are : parts ≡ opening (field_number o.field) o.policy o.words o.cards ++ cards
+  pub fits : refuses_policy o.policy ≡ None
   pub left : Reading t cards e
 
 abbrev pub OpensTo : Result Opening Stop → TrayReader → List Placed → Ending → Type 0
@@ -34,7 +33,7 @@ OpensTo (Ok o) t parts e = (cards : List Placed) × OpensAs o t parts e cards
 OpensTo (Err s) t parts e = StopsEarly parts e s
 
 abbrev pub ReadyTo : Result Opening Stop → TrayReader → Type 0
-ReadyTo (Ok o) t = (ps : List Placed) (e : Ending) → Reading t ps e → ToCome (words_of o.words) o.cards ps e
+ReadyTo (Ok o) t = (ps : List Placed) (e : Ending) → Reading t ps e → ToCome o.words o.cards ps e
 ReadyTo (Err s) t = Unit {0}
 
 abbrev pub PresentsTo : Result (Unit {0}) Stop → Ending → Type 0

@@ -1,9 +1,7 @@
 // Runs of whole trays, and what they report.
 #![tactic(auto)]
 
-mod key;
 mod opening;
-mod refused;
 pub mod report;
 pub mod run;
 mod session;

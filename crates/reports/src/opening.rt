@@ -1,7 +1,5 @@
 // Reads a tray up to its cards.
 ghost use Rattle.std.specs.Prelude.{◌≡◌, ℕ, ◌-◌, ◌≤◌, List, Some, None, MatchResult};
-ghost use Rattle.sharing.specs.Dealings.{words_of};
-ghost use Rattle.sharing.specs.Policies.{thresholds};
 ghost use Rattle.sharing.specs.Refusals.{refuses_policy};
 ghost use Rattle.trays.specs.Answers.{Reading};
 ghost use Rattle.trays.specs.Layout.{Placed, Ending};
@@ -12,13 +10,14 @@ ghost use Rattle.reports.specs.declared.report.Layer.TheVariants as layer;
 use crate::report::{Layer, Stop};
 use sharing::policy::Policy;
 use sharing::words::WordCount;
+use trays::field::TrayField;
 use trays::item::{Fault, Item};
 use trays::reader::TrayReader;
 
 // What a tray says before its cards.
 #[derive(Clone, Copy)]
 pub(crate) struct Opening {
-    pub(crate) field: u8,
+    pub(crate) field: TrayField,
     pub(crate) policy: Policy,
     pub(crate) words: WordCount,
     pub(crate) cards: u8,
@@ -39,22 +38,19 @@ impl From<Fault> for Stop {
 // The policy with the thresholds, the first of which stands at `offset`. Their part begins one byte earlier, with their count.
 fn policy_at(levels: &[u8], offset: usize) -> Result<Policy, Stop>
     requires { 1 ≤ offset }
-    ensures { MatchResult result (λ p. (thresholds p ≡ levels.now) × (refuses_policy levels.now ≡ None)) (λ s. (n : ℕ) × (refuses_policy levels.now ≡ Some n) × Stops n layer.Policy (offset - 1) s) }
+    ensures { MatchResult result (λ p. (p ≡ levels.now) × (refuses_policy levels.now ≡ None)) (λ s. (n : ℕ) × (refuses_policy levels.now ≡ Some n) × Stops n layer.Policy (offset - 1) s) }
 {
-    match Policy::new(levels) {
-        Ok(policy) => Ok(policy),
-        Err(refusal) => Err(Stop {
-            refusal,
-            layer: Layer::Policy,
-            offset: offset - 1,
-        }),
-    }
+    Policy::new(levels).map_err(|refusal| Stop {
+        refusal,
+        layer: Layer::Policy,
+        offset: offset - 1,
+    })
 }
 
 // The number of words that a tray may have.
 fn word_count(words: u8) -> WordCount
     requires { (1 ≤ words) × (words ≤ 16) }
-    ensures { words_of result ≡ words }
+    ensures { result ≡ words }
 {
     let Ok(count) = WordCount::new(words) else {
         unreachable()
@@ -68,18 +64,18 @@ pub(crate) fn open(reader: &mut TrayReader) -> Result<Opening, Stop>
     ensures parts { (parts : List Placed) (e : Ending) → Reading reader.old parts e → OpensTo result reader.new parts e }
     ensures ready { ReadyTo result reader.new }
 {
-    let Item::Field(field) = reader.next()? else {
+    let Some(Item::Field(field)) = reader.next()? else {
         unreachable()
     };
-    let Item::Thresholds { bytes, offset } = reader.next()? else {
+    let Some(Item::Thresholds { bytes, offset }) = reader.next()? else {
         unreachable()
     };
     let policy = policy_at(bytes, offset)?;
-    let Item::Words(words) = reader.next()? else {
+    let Some(Item::Words(words)) = reader.next()? else {
         unreachable()
     };
     let words = word_count(words);
-    let Item::CardCount(cards) = reader.next()? else {
+    let Some(Item::CardCount(cards)) = reader.next()? else {
         unreachable()
     };
     Ok(Opening {

@@ -1,15 +1,17 @@
 // What a run of a tray reports.
-ghost use Rattle.std.specs.Prelude.{◌≡◌, ◌≤◌, length};
-
+use arrayvec::ArrayVec;
+use pools::judgement::Judgement;
+use pools::key::Key;
 use sharing::refusal::Refusal;
-use sharing::words::MOST_WORDS;
+use sharing::words::WordCount;
+use trays::field::TrayField;
 
 // What a tray says before its cards.
 #[derive(Clone, Copy)]
 pub struct Header {
-    pub field: u8,
+    pub field: TrayField,
     pub levels: u8,
-    pub words: u8,
+    pub words: WordCount,
     pub cards: u8,
 }
 
@@ -21,17 +23,19 @@ pub struct RefusedCard {
     pub refusal: Refusal,
 }
 
-// How many cards a tray may have.
-pub(crate) const MOST_CARDS: usize = 255;
-
-// The cards that the pool turned away, as many as `count`, in the tray's order. A tray has no more cards than there is room.
-#[derive(Drop)]
-pub struct RefusedCards {
-    pub(crate) cards: [RefusedCard; MOST_CARDS],
-    pub(crate) count: usize,
-    ghost room: { length cards ≡ 255 },
-    ghost within: { count ≤ 255 },
+// What stands in an unused place.
+impl Default for RefusedCard {
+    fn default() -> RefusedCard {
+        RefusedCard {
+            ordinal: 0,
+            offset: 0,
+            refusal: Refusal::TrayEndsEarly,
+        }
+    }
 }
+
+// How many cards a tray may have.
+pub const MOST_CARDS: usize = 255;
 
 // Who stopped a run.
 #[derive(Clone, Copy)]
@@ -48,38 +52,19 @@ pub struct Stop {
     pub offset: usize,
 }
 
-// A key: the first `count` words.
+// What comes of a run that came to its end: how many cards are held, how many were turned away, and the verdict.
 #[derive(Clone, Copy)]
-pub struct Key {
-    pub(crate) words: [u32; MOST_WORDS],
-    pub(crate) count: usize,
-    ghost room: { length words ≡ 16 },
-    ghost within: { count ≤ 16 },
+pub struct Judged {
+    pub held: usize,
+    pub turned: u16,
+    pub verdict: Judgement<Key>,
 }
 
-// What the cards say of the key.
-#[derive(Clone, Copy)]
-pub enum Outcome {
-    Contradictory,
-    Open,
-    Key(Key),
-}
-
-// How a run came to its end, or why it stopped.
-#[derive(Clone, Copy)]
-pub enum Conclusion {
-    Judged {
-        held: usize,
-        turned: u16,
-        outcome: Outcome,
-    },
-    Stopped(Stop),
-}
-
-// What a run of a tray reports. The header is there once the card count was read.
+// What a run of a tray reports. The header is there once the card count was read; the cards that the pool turned away stand
+// in the tray's order.
 #[derive(Drop)]
 pub struct TrayReport {
     pub header: Option<Header>,
-    pub refused: RefusedCards,
-    pub conclusion: Conclusion,
+    pub refused: ArrayVec<RefusedCard, MOST_CARDS>,
+    pub conclusion: Result<Judged, Stop>,
 }

@@ -1,55 +1,44 @@
 // Runs a whole tray.
-ghost use Rattle.std.specs.Prelude.{◌≡◌, List, [], length, Some, ◌==◌};
-ghost use Rattle.sharing.specs.Dealings.{words_of};
-ghost use Rattle.sharing.specs.Policies.{thresholds};
+ghost use Rattle.std.specs.Prelude.{◌≡◌, List, [], length, Some};
 ghost use Rattle.trays.specs.Answers.{Reading};
 ghost use Rattle.trays.specs.Layout.{Placed, Ending, at_field, Reads};
 ghost use Rattle.reports.specs.Runs.{Concludes, Reports, turned_by, turned_from};
 ghost use Rattle.reports.specs.Steps.{ToCome};
 
 use crate::opening::{Opening, open};
-use crate::report::{Conclusion, Header, RefusedCards, TrayReport};
+use crate::report::{Header, TrayReport};
 use crate::session::Session;
+use arrayvec::ArrayVec;
 use fields::Field;
 use fields::byte::ByteField;
 use fields::prime::WIDE_FIELD;
 use pools::pool::Pool;
+use trays::field::TrayField;
 use trays::reader::TrayReader;
 
-const BYTE_FIELD: u8 = 1;
-
-// Whether a field byte names the byte field; the other one names the wide field.
-fn names_bytes(code: u8) -> bool
-    ensures { result ≡ (code == 1) }
-{
-    code == BYTE_FIELD
-}
-
 // Runs the cards of a tray over a field.
-fn run_cards<F: Field + Drop>(field: F, opening: Opening, mut reader: TrayReader) -> TrayReport
-    requires { (ps : List Placed) (e : Ending) → Reading reader ps e → ToCome (words_of opening.words) opening.cards ps e }
-    ensures header { result.header ≡ Some (record { field = opening.field; levels = length (thresholds opening.policy); words = words_of opening.words; cards = opening.cards }) }
-    ensures refusals { (ps : List Placed) (e : Ending) → Reading reader.entry ps e → turned_by result.refused ≡ turned_from (F.Field.arithmetic field) (thresholds opening.policy) (words_of opening.words) [] ps }
-    ensures concludes { (ps : List Placed) (e : Ending) → Reading reader.entry ps e → Concludes (F.Field.arithmetic field) (thresholds opening.policy) (words_of opening.words) ps e result.conclusion }
+fn run_cards<F: Field + Drop>(field: F, opening: Opening, reader: &mut TrayReader) -> TrayReport
+    requires { (ps : List Placed) (e : Ending) → Reading reader.old ps e → ToCome opening.words opening.cards ps e }
+    ensures header { result.header ≡ Some (record { field = opening.field; levels = length opening.policy; words = opening.words; cards = opening.cards }) }
+    ensures refusals { (ps : List Placed) (e : Ending) → Reading reader.old ps e → turned_by result.refused.items ≡ turned_from (F.Field.arithmetic field) opening.policy opening.words [] ps }
+    ensures concludes { (ps : List Placed) (e : Ending) → Reading reader.old ps e → Concludes (F.Field.arithmetic field) opening.policy opening.words ps e result.conclusion }
 {
-    let words = opening.words.get();
+    let policy = opening.policy;
+    let words = opening.words;
     let header = Header {
         field: opening.field,
-        levels: opening.policy.levels(),
+        levels: policy.levels(),
         words,
         cards: opening.cards,
     };
     let mut session = Session {
-        pool: Pool::new(field, opening.policy, opening.words),
-        refused: RefusedCards::none(),
+        pool: Pool::new(field, policy, words),
+        refused: ArrayVec::new(),
     };
-    let conclusion = match session.present_all(&mut reader, words, opening.cards) {
-        Ok(()) => session.judged(words),
-        Err(stop) => Conclusion::Stopped(stop),
-    };
+    let conclusion = session.run(reader, opening.cards);
     TrayReport {
         header: Some(header),
-        refused: session.refused,
+        refused: session.refused.take(),
         conclusion,
     }
 }
@@ -60,17 +49,14 @@ pub fn run_tray(bytes: &[u8]) -> TrayReport
 {
     let mut reader = TrayReader::new(bytes);
     match open(&mut reader) {
-        Ok(opening) => {
-            if names_bytes(opening.field) {
-                run_cards(ByteField, opening, reader)
-            } else {
-                run_cards(WIDE_FIELD, opening, reader)
-            }
-        }
+        Ok(opening) => match opening.field {
+            TrayField::Bytes => run_cards(ByteField, opening, &mut reader),
+            TrayField::Wide => run_cards(WIDE_FIELD, opening, &mut reader),
+        },
         Err(stop) => TrayReport {
             header: None,
-            refused: RefusedCards::none(),
-            conclusion: Conclusion::Stopped(stop),
+            refused: ArrayVec::new(),
+            conclusion: Err(stop),
         },
     }
 }

@@ -1,105 +1,93 @@
 // Presents the cards of a tray to a pool, and judges it.
-ghost use Rattle.std.specs.Prelude.{◌≡◌, ◌+◌, ◌<◌, ◌≤◌, List, [], ◌++◌};
-ghost use Rattle.sharing.specs.Dealings.{words_of};
-ghost use Rattle.sharing.specs.Policies.{thresholds};
-ghost use Rattle.pools.specs.Pools.{card_list, Frame};
+ghost use Rattle.std.specs.Prelude.{◌≡◌, ◌+◌, ◌<◌, ◌≤◌, List, [], ◌++◌, length};
+ghost use Rattle.pools.specs.Pools.{Frame};
 ghost use Rattle.pools.specs.Sessions.{none_yet, present, step, refuses_card};
-ghost use Rattle.pools.specs.Verdicts.{Right};
 ghost use Rattle.trays.specs.Answers.{Reading};
 ghost use Rattle.trays.specs.Cards.{Sized};
 ghost use Rattle.trays.specs.Layout.{Placed, Ending};
-ghost use Rattle.reports.specs.Runs.{Judges, card_in, list_after, told, turned_by, turned_from, verdict_of};
+ghost use Rattle.reports.specs.Runs.{Concludes, Judges, card_in, list_after, told, turned_by, turned_from};
 ghost use Rattle.reports.specs.Steps.{PresentsTo, ToCome};
 
-use crate::report::{Conclusion, Key, Outcome, RefusedCard, RefusedCards, Stop};
+use crate::report::{Judged, MOST_CARDS, RefusedCard, Stop};
+use arrayvec::ArrayVec;
 use fields::Field;
-use pools::judgement::Judgement;
 use pools::pool::Pool;
-use sharing::words::MOST_WORDS;
 use trays::card::card_of;
 use trays::item::Item;
 use trays::reader::TrayReader;
 
 // A pool, and the cards that it turned away.
 #[derive(Drop)]
-pub(crate) struct Session<F> {
+pub(crate) struct Session<F: Field> {
     pub(crate) pool: Pool<F>,
-    pub(crate) refused: RefusedCards,
+    pub(crate) refused: ArrayVec<RefusedCard, MOST_CARDS>,
 }
 
 impl<F: Field> Session<F> {
-    // Presents the card at an index; a refusal is kept, and stops nothing.
-    fn present(&mut self, words: u8, index: u8, bytes: &[u8], offset: usize)
-        requires words { (words ≡ words_of self.old.pool.words) × (Sized words bytes.now) }
-        requires room { (self.old.refused.count < 255) × (index < 255) }
-        ensures list { card_list self.new.pool ≡ step (F.Field.arithmetic self.old.pool.field) (thresholds self.old.pool.policy) (words_of self.old.pool.words) (card_list self.old.pool) (present (card_in words bytes.now)) }
+    // Presents the card at an index, which counts from 0; a refusal is kept, and stops nothing.
+    fn present(&mut self, index: u8, bytes: &[u8], offset: usize)
+        requires sized { Sized self.old.pool.words bytes.now }
+        requires room { (length self.old.refused.items < 255) × (index < 255) }
+        ensures list { self.new.pool.list ≡ step (F.Field.arithmetic self.old.pool.field) self.old.pool.policy self.old.pool.words self.old.pool.list (present (card_in self.old.pool.words bytes.now)) }
         ensures frame { Frame self.old.pool self.new.pool }
-        ensures refusals { turned_by self.new.refused ≡ turned_by self.old.refused ++ told (index + 1) offset (refuses_card (F.Field.arithmetic self.old.pool.field) (thresholds self.old.pool.policy) (words_of self.old.pool.words) (card_list self.old.pool).held (card_in words bytes.now)) }
-        ensures counted { self.new.refused.count ≤ self.old.refused.count + 1 }
+        ensures refusals { turned_by self.new.refused.items ≡ turned_by self.old.refused.items ++ told (index + 1) offset (refuses_card (F.Field.arithmetic self.old.pool.field) self.old.pool.policy self.old.pool.words self.old.pool.list.held (card_in self.old.pool.words bytes.now)) }
+        ensures counted { length self.new.refused.items ≤ length self.old.refused.items + 1 }
     {
+        let words = self.pool.words().get();
         let Some(card) = card_of(bytes, words) else {
             unreachable()
         };
         let values = card.values;
-        if let Err(refusal) = self
+        let presented = self
             .pool
-            .present(card.level, card.id, &values[0..words as usize])
-        {
-            self.refused.push(RefusedCard::at(index, offset, refusal));
+            .present(card.level, card.id, &values[..words as usize]);
+        if let Err(refusal) = presented {
+            self.refused.push(RefusedCard {
+                ordinal: index + 1,
+                offset,
+                refusal,
+            });
         }
     }
 
     // Presents the cards that are to come, in order, up to the end or a fault.
-    pub(crate) fn present_all(
-        &mut self,
-        reader: &mut TrayReader,
-        words: u8,
-        cards: u8,
-    ) -> Result<(), Stop>
-        requires words { (words ≡ words_of self.old.pool.words) × ((1 ≤ words) × (words ≤ 16)) }
-        requires fresh { (card_list self.old.pool ≡ none_yet) × (self.old.refused.count ≡ 0) }
-        requires coming { (ps : List Placed) (e : Ending) → Reading reader.old ps e → ToCome words cards ps e }
+    pub(crate) fn present_all(&mut self, reader: &mut TrayReader, cards: u8) -> Result<(), Stop>
+        requires fresh { (self.old.pool.list ≡ none_yet) × (self.old.refused.items ≡ []) }
+        requires coming { (ps : List Placed) (e : Ending) → Reading reader.old ps e → ToCome self.old.pool.words cards ps e }
         ensures frame { Frame self.old.pool self.new.pool }
-        ensures all { (ps : List Placed) (e : Ending) → Reading reader.old ps e → (turned_by self.new.refused ≡ turned_from (F.Field.arithmetic self.old.pool.field) (thresholds self.old.pool.policy) words [] ps) × (card_list self.new.pool ≡ list_after (F.Field.arithmetic self.old.pool.field) (thresholds self.old.pool.policy) words ps) × PresentsTo result e }
+        ensures all { (ps : List Placed) (e : Ending) → Reading reader.old ps e → (turned_by self.new.refused.items ≡ turned_from (F.Field.arithmetic self.old.pool.field) self.old.pool.policy self.old.pool.words [] ps) × (self.new.pool.list ≡ list_after (F.Field.arithmetic self.old.pool.field) self.old.pool.policy self.old.pool.words ps) × PresentsTo result e }
     {
         for i in 0..cards {
-            let Item::Card { bytes, offset } = reader.next()? else {
+            let Some(Item::Card { bytes, offset }) = reader.next()? else {
                 unreachable()
             };
-            self.present(words, i, bytes, offset);
+            self.present(i, bytes, offset);
         }
-        let Item::End = reader.next()? else {
+        let None = reader.next()? else {
             unreachable()
         };
         Ok(())
     }
 
-    // What the held cards say of the key.
-    fn outcome(&self, words: u8) -> Outcome
-        requires { (words ≡ words_of self.now.pool.words) × (words ≤ 16) }
-        ensures { Right (F.Field.arithmetic self.now.pool.field) (thresholds self.now.pool.policy) words (card_list self.now.pool).held (verdict_of result) }
+    // The counts and the verdict.
+    fn judged(&self) -> Judged
+        ensures { Judges (F.Field.arithmetic self.now.pool.field) self.now.pool.policy self.now.pool.words self.now.pool.list result }
     {
-        let count = words as usize;
-        let mut key = [0; MOST_WORDS];
-        let Ok(judgement) = self.pool.judge(&mut key[0..count]) else {
-            unreachable()
-        };
-        match judgement {
-            Judgement::Contradictory => Outcome::Contradictory,
-            Judgement::Open => Outcome::Open,
-            Judgement::Key => Outcome::Key(Key { words: key, count }),
+        Judged {
+            held: self.pool.held(),
+            turned: self.pool.turned_away(),
+            verdict: self.pool.verdict(),
         }
     }
 
-    // The counts and the verdict.
-    pub(crate) fn judged(&self, words: u8) -> Conclusion
-        requires { (words ≡ words_of self.now.pool.words) × (words ≤ 16) }
-        ensures { Judges (F.Field.arithmetic self.now.pool.field) (thresholds self.now.pool.policy) words (card_list self.now.pool) result }
+    // Presents the cards that are to come, and judges them at the end.
+    pub(crate) fn run(&mut self, reader: &mut TrayReader, cards: u8) -> Result<Judged, Stop>
+        requires fresh { (self.old.pool.list ≡ none_yet) × (self.old.refused.items ≡ []) }
+        requires coming { (ps : List Placed) (e : Ending) → Reading reader.old ps e → ToCome self.old.pool.words cards ps e }
+        ensures refusals { (ps : List Placed) (e : Ending) → Reading reader.old ps e → turned_by self.new.refused.items ≡ turned_from (F.Field.arithmetic self.old.pool.field) self.old.pool.policy self.old.pool.words [] ps }
+        ensures concludes { (ps : List Placed) (e : Ending) → Reading reader.old ps e → Concludes (F.Field.arithmetic self.old.pool.field) self.old.pool.policy self.old.pool.words ps e result }
     {
-        Conclusion::Judged {
-            held: self.pool.held(),
-            turned: self.pool.turned_away(),
-            outcome: self.outcome(words),
-        }
+        self.present_all(reader, cards)?;
+        Ok(self.judged())
     }
 }

@@ -3,7 +3,9 @@ ghost use Rattle.std.specs.Prelude.{◌≡◌, ◌++◌, IfOk, Some, string_byte
 ghost use Rattle.std.specs.List.{flat_map};
 ghost use Rattle.reports.specs.Report.{conclusion_text, fault_line, header_line, header_text, layer_name, refused_line, report_text, verdict_line, words_text};
 
-use crate::report::{Conclusion, Header, Layer, Outcome, RefusedCard, Stop, TrayReport};
+use crate::report::{Header, Judged, Layer, RefusedCard, Stop, TrayReport};
+use pools::judgement::Judgement;
+use pools::key::Key;
 use std::alloc::Global;
 use std::fmt;
 use std::fmt::Write;
@@ -12,9 +14,9 @@ impl fmt::Display for Header {
     ghost output = { λ h. Some (header_line h) };
 
     fn fmt<W: fmt::Write>(&self, f: &mut fmt::Formatter<W>) -> fmt::Result {
-        let field = self.field;
+        let field = self.field.number();
         let levels = self.levels;
-        let words = self.words;
+        let words = self.words.get();
         let cards = self.cards;
         write!(
             f,
@@ -77,13 +79,13 @@ fn write_refused(text: &mut String, refused: &[RefusedCard]) -> Result<(), fmt::
 }
 
 // Adds the verdict's line.
-fn write_verdict(text: &mut String, outcome: Outcome) -> Result<(), fmt::Error>
-    ensures { OnOk result (string_bytes text.new ≡ string_bytes text.old ++ verdict_line outcome) }
+fn write_verdict(text: &mut String, judgement: Judgement<Key>) -> Result<(), fmt::Error>
+    ensures { OnOk result (string_bytes text.new ≡ string_bytes text.old ++ verdict_line judgement) }
 {
-    match outcome {
-        Outcome::Contradictory => write!(text, "contradictory\n")?,
-        Outcome::Open => write!(text, "open\n")?,
-        Outcome::Key(key) => {
+    match judgement {
+        Judgement::Contradictory => write!(text, "contradictory\n")?,
+        Judgement::Open => write!(text, "open\n")?,
+        Judgement::Key(key) => {
             write!(text, "key")?;
             write_words(text, key.as_slice())?;
             write!(text, "\n")?;
@@ -103,19 +105,17 @@ fn write_header(text: &mut String, header: Option<Header>) -> Result<(), fmt::Er
 }
 
 // Adds the counts and the verdict, or what stopped the run.
-fn write_conclusion(text: &mut String, conclusion: Conclusion) -> Result<(), fmt::Error>
+fn write_conclusion(text: &mut String, conclusion: Result<Judged, Stop>) -> Result<(), fmt::Error>
     ensures { OnOk result (string_bytes text.new ≡ string_bytes text.old ++ conclusion_text conclusion) }
 {
     match conclusion {
-        Conclusion::Judged {
-            held,
-            turned,
-            outcome,
-        } => {
+        Ok(judged) => {
+            let held = judged.held;
+            let turned = judged.turned;
             write!(text, "held {held} turned {turned}\n")?;
-            write_verdict(text, outcome)?;
+            write_verdict(text, judged.verdict)?;
         }
-        Conclusion::Stopped(stop) => write!(text, "{stop}")?,
+        Err(stop) => write!(text, "{stop}")?,
     }
     Ok(())
 }

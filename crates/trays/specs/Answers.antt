@@ -4,11 +4,15 @@
 --   rest      the parts that are then still to come
 --   Reading   from where a reader stands, its bytes are these parts, with this ending
 --   AtStart   a reader has all of these bytes to come
---   NextSaid, SaidFrom   what a request says, and what it leaves to come
+--   NextSaid  what a request says, and what it leaves to come
+--   SaidFrom, SaidFromStage   the same before a fault is kept, where this comes next, and at any stage
+--   fault_at  the fault where a reader stands
 --   ReaderReadsOneWay, RequestsInOrder   the theorems about it
 -- Assumes nothing.
-use Rattle.std.specs.Prelude.{◌≡◌, ℕ, suc, ◌+◌, List, [], ◌∷◌, drop, Ok, Err, Result}
+use Rattle.std.specs.Prelude.{◌≡◌, ℕ, suc, ◌+◌, List, [], ◌∷◌, drop, Some, None, Ok, Err, Option, Result}
 use Rattle.sharing.specs.Refusals.{number}
+use Rattle.sharing.specs.declared.refusal.Refusal.{Refusal}
+use Rattle.trays.specs.Fields.{field_number}
 use Rattle.trays.specs.declared.item.Item.{Item}
 use Rattle.trays.specs.declared.item.Item.TheVariants as item
 use Rattle.trays.specs.declared.item.Fault.{Fault}
@@ -27,15 +31,15 @@ pub data Answer : Type 0 where
   over : Ending → Answer
 
 abbrev pub as_answer : Item → Answer
-as_answer (item.Field n) = gave (field n)
+as_answer (item.Field f) = gave (field (field_number f))
 as_answer (item.Thresholds bs o) = gave_at (thresholds bs.now) o
 as_answer (item.Words n) = gave (words n)
 as_answer (item.CardCount n) = gave (card_count n)
 as_answer (item.Card bs o) = gave_at (card bs.now) o
-as_answer item.End = over ended
 
-abbrev pub answer : Result Item Fault → Answer
-answer (Ok i) = as_answer i
+abbrev pub answer : Result (Option Item) Fault → Answer
+answer (Ok (Some i)) = as_answer i
+answer (Ok None) = over ended
 answer (Err f) = over (as_ending f)
 
 -- the thresholds themselves stand after their count
@@ -72,15 +76,30 @@ AtStart t bytes =
     (parts : List Placed) (e : Ending) → (Reading t parts e → Reads at_field 0 bytes parts e) × (Reads at_field 0 bytes parts e → Reading t parts e)
 
 -- a request: whatever was to come from the reader as it stood, its first is said and the others are still to come
-abbrev pub NextSaid : TrayReader → Result Item Fault → TrayReader → Type 0
+abbrev pub NextSaid : TrayReader → Result (Option Item) Fault → TrayReader → Type 0
 NextSaid before r after =
     (parts : List Placed) (e : Ending) → Reading before parts e → (answer r ≡ due parts e) × Reading after (rest parts) e
 
--- the same, of a reader that stands where this comes next
-abbrev pub SaidFrom : Next → TrayReader → Result Item Fault → TrayReader → Type 0
-SaidFrom next before r after =
-    (parts : List Placed) (e : Ending) → Reads next before.position (drop before.position before.bytes.now) parts e
-    → (answer r ≡ due parts e) × Reading after (rest parts) e
+-- where the reader stands once it has kept a fault that it said
+abbrev pub kept : Result (Option Item) Fault → Stage → Stage
+kept (Ok i) s = s
+kept (Err f) s = stage.Faulted f
+
+-- the same, of a reader that stands where this comes next and has not kept a fault yet; its bytes stay
+pub record SaidFrom (next : Next) (before : TrayReader) (r : Result (Option Item) Fault) (after : TrayReader) : Type 0 where
+  pub same : after.bytes ≡ before.bytes
+  pub said : (parts : List Placed) (e : Ending) → Reads next before.position (drop before.position before.bytes.now) parts e
+      → (answer r ≡ due parts e) × From (kept r after.stage) after.position after.bytes.now (rest parts) e
+
+-- the same, of a reader at any stage
+pub record SaidFromStage (before : TrayReader) (r : Result (Option Item) Fault) (after : TrayReader) : Type 0 where
+  pub same : after.bytes ≡ before.bytes
+  pub said : (parts : List Placed) (e : Ending) → Reading before parts e
+      → (answer r ≡ due parts e) × From (kept r after.stage) after.position after.bytes.now (rest parts) e
+
+-- the fault where the reader stands
+abbrev pub fault_at : TrayReader → Refusal → Fault
+fault_at t k = record { refusal = k; offset = t.position }
 
 -- wherever a reader stands there is one reading of what is to come, and no other
 abbrev pub ReaderReadsOneWay : Type 0
@@ -89,7 +108,7 @@ ReaderReadsOneWay = (t : TrayReader) → OneReading (Reading t)
 -- of one request after the other, each says what is due at its turn: the parts in their order, and then the ending for ever
 abbrev pub RequestsInOrder : Type 0
 RequestsInOrder =
-    (readers : ℕ → TrayReader) (results : ℕ → Result Item Fault)
+    (readers : ℕ → TrayReader) (results : ℕ → Result (Option Item) Fault)
     → ((k : ℕ) → NextSaid (readers k) (results k) (readers (suc k)))
     → (parts : List Placed) (e : Ending) → Reading (readers 0) parts e
     → (k : ℕ) → answer (results k) ≡ due (drop k parts) e

@@ -2,8 +2,8 @@
 ghost use Rattle.std.specs.Prelude.{◌≡◌, ◌+◌, ◌-◌, ◌*◌, ◌<◌, ◌≤◌, [], ◌∷◌, ◌++◌, length, take, drop, replicate, MatchOption};
 ghost use Rattle.trays.specs.Cards.{Says, Sized, id_in, level_in, little_endian, numbers};
 
-use crate::limits::{card_size, is_word_count};
-use sharing::words::MOST_WORDS;
+use crate::limits::card_size;
+use sharing::words::{MOST_WORDS, WordCount};
 
 // What a card says. The first values are the card's, as many as it has words; the others are zero.
 #[derive(Clone, Copy)]
@@ -66,12 +66,11 @@ fn parts_of<'a>(bytes: &'a [u8]) -> Option<CardParts<'a>>
 pub fn card_of(bytes: &[u8], words: u8) -> Option<TrayCard>
     ensures { MatchOption result (Sized words bytes.now → ⊥) (λ c. Says words bytes.now c.level c.id c.values) }
 {
-    if !is_word_count(words) || bytes.len() != card_size(words) {
+    WordCount::new(words).ok()?;
+    if bytes.len() != card_size(words) {
         return None;
     }
-    let Some(parts) = parts_of(bytes) else {
-        return None;
-    };
+    let parts = parts_of(bytes)?;
     Some(TrayCard {
         level: parts.level,
         id: parts.id,

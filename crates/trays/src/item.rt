@@ -1,4 +1,5 @@
 // What a reader of a tray hands out, part by part, and what it answers where a tray is wrong.
+use crate::field::TrayField;
 use sharing::refusal::Refusal;
 
 // Why the bytes from an offset on are no tray.
@@ -8,13 +9,13 @@ pub struct Fault {
     pub offset: usize,
 }
 
-// A part of a tray, or its end. Thresholds and a card are lent bytes of the tray, with the offset of their first.
+// A part of a tray. Thresholds and a card are lent bytes of the tray, with the offset of their first.
 #[derive(Clone, Copy)]
 pub enum Item<'a> {
-    Field(u8),
+    Field(TrayField),
     Thresholds { bytes: &'a [u8], offset: usize },
+    // A number: an item that holds a `WordCount` can go through no `?` yet.
     Words(u8),
     CardCount(u8),
     Card { bytes: &'a [u8], offset: usize },
-    End,
 }

@@ -2,6 +2,7 @@
 #![tactic(auto)]
 
 pub mod card;
+pub mod field;
 pub mod item;
 pub mod limits;
 pub mod reader;

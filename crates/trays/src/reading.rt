@@ -1,36 +1,20 @@
 // Reads a tray part by part.
-ghost use Rattle.std.specs.Prelude.{◌≡◌, ℕ, ◌+◌, ◌<◌, ◌≤◌, length, take, drop, MatchOption, slice_index};
-ghost use Rattle.trays.specs.Answers.{AtStart, NextSaid, SaidFrom, answer, over};
-ghost use Rattle.sharing.specs.Refusals.{number};
-ghost use Rattle.trays.specs.Layout.{at_field, at_thresholds, at_words, at_count, at_cards, fault as a_fault, OneReading, Reads};
+ghost use Rattle.std.specs.Prelude.{◌≡◌, ℕ, ◌+◌, ◌<◌, ◌≤◌, length, take, drop, MatchResult, slice_index};
+ghost use Rattle.trays.specs.Answers.{AtStart, NextSaid, SaidFrom, SaidFromStage, fault_at};
+ghost use Rattle.trays.specs.Layout.{at_field, at_thresholds, at_words, at_count, at_cards, OneReading, Reads};
 
+use crate::field::TrayField;
 use crate::item::{Fault, Item};
-use crate::limits::{card_size, is_field, is_word_count};
+use crate::limits::card_size;
 use crate::reader::{Stage, TrayReader};
 use sharing::refusal::Refusal;
-
-// The `count` bytes from `position` on, where there are so many.
-fn part<'a>(bytes: &'a [u8], position: usize, count: usize) -> Option<&'a [u8]>
-    requires { position ≤ length bytes.now }
-    ensures { MatchOption result (length bytes.now < position + count) (λ s. (position + count ≤ length bytes.now) × (s.now ≡ take count (drop position bytes.now))) }
-{
-    if bytes.len() - position < count {
-        return None;
-    }
-    Some(&bytes[position..position + count])
-}
-
-// The byte at `position`, if there is one.
-fn byte(bytes: &[u8], position: usize) -> Option<u8>
-    ensures { MatchOption result (length bytes.now ≤ position) (λ b. (position < length bytes.now) × (b ≡ slice_index bytes.now position)) }
-{
-    bytes.get(position).copied()
-}
+use sharing::words::WordCount;
 
 impl<'a> TrayReader<'a> {
-    // A reader that has all of `bytes` to come.
-    fn at_start(bytes: &'a [u8]) -> TrayReader<'a>
-        ensures { AtStart result bytes.now }
+    // A reader at the start of `bytes`, which are one list of parts with one ending, and no other.
+    pub fn new(bytes: &'a [u8]) -> TrayReader<'a>
+        ensures decided { OneReading (Reads at_field 0 bytes.now) }
+        ensures starts { AtStart result bytes.now }
     {
         TrayReader {
             bytes,
@@ -39,129 +23,136 @@ impl<'a> TrayReader<'a> {
         }
     }
 
-    // A reader at the start of `bytes`, which are one list of parts with one ending, and no other.
-    pub fn new(bytes: &'a [u8]) -> TrayReader<'a>
-        ensures decided { OneReading (Reads at_field 0 bytes.now) }
-        ensures starts { AtStart result bytes.now }
+    // The fault where the reader stands.
+    fn fault(&self, refusal: Refusal) -> Fault
+        ensures { result ≡ fault_at self.now refusal }
     {
-        TrayReader::at_start(bytes)
-    }
-
-    // Gives a fault where the reader stands, and keeps it for all further requests.
-    fn fault(&mut self, refusal: Refusal) -> Result<Item<'a>, Fault>
-        ensures same { self.new.bytes ≡ self.old.bytes }
-        ensures gives { (answer result ≡ over (a_fault (number refusal) self.old.position)) × (self.new.stage ≡ Stage.Faulted (record { refusal = refusal; offset = self.old.position })) }
-    {
-        let fault = Fault {
+        Fault {
             refusal,
             offset: self.position,
-        };
-        self.stage = Stage::Faulted(fault);
-        Err(fault)
+        }
     }
 
-    fn read_field(&mut self) -> Result<Item<'a>, Fault>
-        ensures same { self.new.bytes ≡ self.old.bytes }
-        ensures reads { SaidFrom at_field self.old result self.new }
+    // What was read, or the fault that it was refused.
+    fn accepted<T>(&self, read: Result<T, Refusal>) -> Result<T, Fault>
+        ensures { MatchResult read (λ x. result ≡ Ok x) (λ k. result ≡ Err (fault_at self.now k)) }
     {
-        let Some(code) = byte(self.bytes, self.position) else {
-            return self.fault(Refusal::TrayEndsEarly);
-        };
-        if !is_field(code) {
-            return self.fault(Refusal::UnknownField);
+        // Tried, and the proof did not close: `read.map_err(|refusal| self.fault(refusal))`.
+        match read {
+            Ok(value) => Ok(value),
+            Err(refusal) => Err(self.fault(refusal)),
         }
+    }
+
+    // The byte where the reader stands.
+    fn byte(&self) -> Result<u8, Fault>
+        ensures { MatchResult result (λ b. (self.now.position < length self.now.bytes.now) × (b ≡ slice_index self.now.bytes.now self.now.position)) (λ f. (length self.now.bytes.now ≤ self.now.position) × (f ≡ fault_at self.now Refusal.TrayEndsEarly)) }
+    {
+        let byte = self.bytes.get(self.position).copied();
+        byte.ok_or(self.fault(Refusal::TrayEndsEarly))
+    }
+
+    // The `count` bytes from `from` on.
+    fn part(&self, from: usize, count: usize) -> Result<&'a [u8], Fault>
+        requires { from ≤ length self.now.bytes.now }
+        ensures { MatchResult result (λ s. (from + count ≤ length self.now.bytes.now) × (s.now ≡ take count (drop from self.now.bytes.now))) (λ f. (length self.now.bytes.now < from + count) × (f ≡ fault_at self.now Refusal.TrayEndsEarly)) }
+    {
+        let part = self.bytes[from..].get(..count);
+        part.ok_or(self.fault(Refusal::TrayEndsEarly))
+    }
+
+    fn read_field(&mut self) -> Result<Option<Item<'a>>, Fault>
+        ensures { SaidFrom at_field self.old result self.new }
+    {
+        let code = self.byte()?;
+        let field = self.accepted(TrayField::try_from(code))?;
         self.position += 1;
         self.stage = Stage::Thresholds;
-        Ok(Item::Field(code))
+        Ok(Some(Item::Field(field)))
     }
 
-    fn read_thresholds(&mut self) -> Result<Item<'a>, Fault>
-        ensures same { self.new.bytes ≡ self.old.bytes }
-        ensures reads { SaidFrom at_thresholds self.old result self.new }
+    fn read_thresholds(&mut self) -> Result<Option<Item<'a>>, Fault>
+        ensures { SaidFrom at_thresholds self.old result self.new }
     {
-        let Some(count) = byte(self.bytes, self.position) else {
-            return self.fault(Refusal::TrayEndsEarly);
-        };
-        let count = count as usize;
+        let count = self.byte()? as usize;
         let offset = self.position + 1;
-        let Some(bytes) = part(self.bytes, offset, count) else {
-            return self.fault(Refusal::TrayEndsEarly);
-        };
+        let bytes = self.part(offset, count)?;
         self.position = offset + count;
         self.stage = Stage::Words;
-        Ok(Item::Thresholds { bytes, offset })
+        Ok(Some(Item::Thresholds { bytes, offset }))
     }
 
-    fn read_words(&mut self) -> Result<Item<'a>, Fault>
-        ensures same { self.new.bytes ≡ self.old.bytes }
-        ensures reads { SaidFrom at_words self.old result self.new }
+    fn read_words(&mut self) -> Result<Option<Item<'a>>, Fault>
+        ensures { SaidFrom at_words self.old result self.new }
     {
-        let Some(words) = byte(self.bytes, self.position) else {
-            return self.fault(Refusal::TrayEndsEarly);
-        };
-        if !is_word_count(words) {
-            return self.fault(Refusal::WrongWordCount);
-        }
+        let code = self.byte()?;
+        let words = self.accepted(WordCount::new(code))?;
         self.position += 1;
         self.stage = Stage::CardCount { words };
-        Ok(Item::Words(words))
+        Ok(Some(Item::Words(code)))
     }
 
-    fn read_count(&mut self, words: u8) -> Result<Item<'a>, Fault>
-        ensures same { self.new.bytes ≡ self.old.bytes }
-        ensures reads { SaidFrom (at_count words) self.old result self.new }
+    fn read_count(&mut self, words: WordCount) -> Result<Option<Item<'a>>, Fault>
+        ensures { SaidFrom (at_count words) self.old result self.new }
     {
-        let Some(left) = byte(self.bytes, self.position) else {
-            return self.fault(Refusal::TrayEndsEarly);
-        };
+        let left = self.byte()?;
         self.position += 1;
         self.stage = Stage::Cards { words, left };
-        Ok(Item::CardCount(left))
+        Ok(Some(Item::CardCount(left)))
     }
 
-    fn read_card(&mut self, words: u8, left: u8) -> Result<Item<'a>, Fault>
+    fn read_card(&mut self, words: WordCount, left: u8) -> Result<Option<Item<'a>>, Fault>
         requires { 1 ≤ left }
-        ensures same { self.new.bytes ≡ self.old.bytes }
-        ensures reads { SaidFrom (at_cards words left) self.old result self.new }
+        ensures { SaidFrom (at_cards words left) self.old result self.new }
     {
         let offset = self.position;
-        let size = card_size(words);
-        let Some(bytes) = part(self.bytes, offset, size) else {
-            return self.fault(Refusal::TrayEndsEarly);
-        };
+        let size = card_size(words.get());
+        let bytes = self.part(offset, size)?;
         self.position = offset + size;
         self.stage = Stage::Cards {
             words,
             left: left - 1,
         };
-        Ok(Item::Card { bytes, offset })
+        Ok(Some(Item::Card { bytes, offset }))
     }
 
-    fn read_end(&mut self) -> Result<Item<'a>, Fault>
-        ensures same { self.new.bytes ≡ self.old.bytes }
-        ensures reads { (w : ℕ) → SaidFrom (at_cards w 0) self.old result self.new }
+    fn read_end(&mut self) -> Result<Option<Item<'a>>, Fault>
+        ensures { (w : ℕ) → SaidFrom (at_cards w 0) self.old result self.new }
     {
         if self.position < self.bytes.len() {
-            return self.fault(Refusal::TrailingByte);
+            return Err(self.fault(Refusal::TrailingByte));
         }
         self.stage = Stage::End;
-        Ok(Item::End)
+        Ok(None)
     }
 
-    // The next part, the end, or what is wrong; and the last two again, however often.
-    pub fn next(&mut self) -> Result<Item<'a>, Fault>
-        ensures same { self.new.bytes ≡ self.old.bytes }
-        ensures reads { NextSaid self.old result self.new }
+    // What the stage asks for.
+    fn read(&mut self) -> Result<Option<Item<'a>>, Fault>
+        ensures { SaidFromStage self.old result self.new }
     {
-        match self.stage {
+        // Tried, and the proof did not close: a `match self.stage`, whose arms would copy the word count out of the stage.
+        let stage = self.stage;
+        match &stage {
             Stage::Field => self.read_field(),
             Stage::Thresholds => self.read_thresholds(),
             Stage::Words => self.read_words(),
-            Stage::CardCount { words } => self.read_count(words),
+            Stage::CardCount { words } => self.read_count(*words),
             Stage::Cards { words: _, left: 0 } => self.read_end(),
-            Stage::Cards { words, left } => self.read_card(words, left),
-            Stage::End => Ok(Item::End),
-            Stage::Faulted(fault) => Err(fault),
+            Stage::Cards { words, left } => self.read_card(*words, *left),
+            Stage::End => Ok(None),
+            Stage::Faulted(fault) => Err(*fault),
         }
+    }
+
+    // The next part, none at the end, or what is wrong; and the last two again, however often.
+    pub fn next(&mut self) -> Result<Option<Item<'a>>, Fault>
+        ensures same { self.new.bytes ≡ self.old.bytes }
+        ensures reads { NextSaid self.old result self.new }
+    {
+        let said = self.read();
+        if let Err(fault) = said {
+            self.stage = Stage::Faulted(fault);
+        }
+        said
     }
 }

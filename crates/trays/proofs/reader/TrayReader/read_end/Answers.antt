@@ -1,15 +1,12 @@
-use Rattle.std.proofs.Common.{rules}
-use Rattle.trays.proofs.Requests.{trailing_said, end_said}
+use Rattle.std.proofs.Common.{refl, rules}
+use Rattle.sharing.specs.declared.refusal.Refusal.TheVariants as refusal
+use Rattle.trays.specs.Layout.{at_cards, more_bytes}
+use Rattle.trays.proofs.Requests.{bad_byte, refused, ended_here}
 use Rattle.trays.proofs.reader.TrayReader.read_end.Goals as goal
 
 pub returns-then-self : goal.returns-then-self
-returns-then-self c = record {
-  same = c.fault.ensures.same;
-  reads = λ w. trailing_said w c.args.self.now.bytes.now c.args.self.now.position _ c.fault.new.self c.if-self.true c.fault.ensures.gives;
-}
+returns-then-self c =
+    λ w. refused (at_cards w 0) _ refusal.TrailingByte _ (search rules) (bad_byte c.args.self.now.bytes.now c.args.self.now.position _ (c.if-self.true, refl) more_bytes)
 
 pub returns : goal.returns
-returns c = record {
-  same = search rules;
-  reads = λ w. end_said w c.args.self.now.bytes.now c.args.self.now.position c.args.self.now.position c.if-self.false;
-}
+returns c = λ w. ended_here w c.args.self.now _ c.if-self.false refl refl

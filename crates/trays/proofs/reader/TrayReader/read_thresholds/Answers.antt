@@ -1,23 +1,25 @@
-use Rattle.std.proofs.Common.{rules}
-use Rattle.trays.specs.Layout.{at_thresholds}
-use Rattle.trays.proofs.OneWay.{no_thresholds}
-use Rattle.trays.proofs.Requests.{short, few_said, thresholds_said}
+use Rattle.std.proofs.Common.{◌+◌, refl, rules, arith}
+use Rattle.std.proofs.lemmas.List.{length-drop}
+use Rattle.sharing.specs.declared.refusal.Refusal.TheVariants as refusal
+use Rattle.trays.specs.Layout.{at_thresholds, at_words, thresholds, some_thresholds}
+use Rattle.trays.proofs.OneWay.{no_thresholds, few_thresholds}
+use Rattle.trays.proofs.Requests.{none_left, begins, bad_byte, refused, given, cut}
 use Rattle.trays.proofs.reader.TrayReader.read_thresholds.Goals as goal
 
-pub returns-in_default : goal.returns-in_default
-returns-in_default c = record {
-  same = c.fault.ensures.same;
-  reads = short at_thresholds c.args.self.now.bytes.now c.args.self.now.position _ c.fault.new.self c.in_default.ensures no_thresholds c.fault.ensures.gives;
-}
+pub returns-in_err-count : goal.returns-in_err-count
+returns-in_err-count c =
+    refused _ _ refusal.TrayEndsEarly _ (search rules) (none_left c.args.self.now.bytes.now c.args.self.now.position c.in_err-count.ensures.0 no_thresholds)
 
-pub returns-in_default-part : goal.returns-in_default-part
-returns-in_default-part c = record {
-  same = c.fault-in_default-part.ensures.same;
-  reads = few_said c.args.self.now.bytes.now c.args.self.now.position c.in-Some.count _ c.fault-in_default-part.new.self c.in-Some.ensures c.in_default-part.ensures c.fault-in_default-part.ensures.gives;
-}
+pub returns-in_err-bytes : goal.returns-in_err-bytes
+returns-in_err-bytes c =
+    let bs = c.args.self.now.bytes.now in
+    let p = c.args.self.now.position in
+    refused _ _ refusal.TrayEndsEarly _ (search rules) (bad_byte bs p c.in_ok-count.field-0 c.in_ok-count.ensures (few_thresholds _ _ (omega (arith, length-drop (p + 1) bs, c.in_ok-count.ensures.0, c.in_err-bytes.ensures.0))))
 
 pub returns : goal.returns
-returns c = record {
-  same = search rules;
-  reads = thresholds_said c.args.self.now.bytes.now c.args.self.now.position c.in-Some.count c.in-Some-part.bytes.now c.in-Some.ensures c.in-Some-part.ensures;
-}
+returns c =
+    let bs = c.args.self.now.bytes.now in
+    let p = c.args.self.now.position in
+    let count = begins bs p c.in_ok-count.field-0 c.in_ok-count.ensures in
+    let there = cut bs (p + 1) c.in_ok-count.field-0 c.in_ok-bytes.bytes.now c.in_ok-bytes.ensures in
+    given at_thresholds at_words c.args.self.now _ (thresholds c.in_ok-bytes.bytes.now) _ refl refl some_thresholds (cc) (omega (arith, there.0)) (λ ps e x. x)

@@ -1,28 +1,26 @@
-use Rattle.std.proofs.Common.{refl, rules}
-use Rattle.std.proofs.lemmas.Bool.Decides.{not_from_Decides}
+use Rattle.std.proofs.Common.{◌≡◌, Err, Ok, refl, sym, ap, ◌∙◌, rules}
 use Rattle.sharing.specs.declared.refusal.Refusal.TheVariants as refusal
-use Rattle.trays.specs.declared.reader.Stage.TheVariants as stage
+use Rattle.sharing.specs.Refusals.{number, refused as refused_by}
 use Rattle.trays.specs.Layout.{at_words, at_count, words, some_words, wrong_words}
 use Rattle.trays.proofs.OneWay.{no_words}
-use Rattle.trays.proofs.Requests.{short, bad, byte_said}
+use Rattle.trays.proofs.Requests.{none_left, bad_byte, refused, byte_given, words_refused, words_taken}
 use Rattle.trays.proofs.reader.TrayReader.read_words.Goals as goal
 
-pub returns-in_default : goal.returns-in_default
-returns-in_default c = record {
-  same = c.fault.ensures.same;
-  reads = short at_words c.args.self.now.bytes.now c.args.self.now.position _ c.fault.new.self c.in_default.ensures no_words c.fault.ensures.gives;
-}
+pub returns-in_err-code : goal.returns-in_err-code
+returns-in_err-code c =
+    refused _ _ refusal.TrayEndsEarly _ (search rules) (none_left c.args.self.now.bytes.now c.args.self.now.position c.in_err-code.ensures.0 no_words)
 
-pub returns-then-not-is_word_count : goal.returns-then-not-is_word_count
-returns-then-not-is_word_count c = record {
-  same = c.fault-then-not-is_word_count.ensures.same;
-  reads = bad at_words c.args.self.now.bytes.now c.args.self.now.position c.in-Some.words refusal.WrongWordCount _ c.fault-then-not-is_word_count.new.self c.in-Some.ensures (wrong_words (λ l h. not_from_Decides c.is_word_count.result c.is_word_count.ensures c.if-not-is_word_count.true (l, h))) c.fault-then-not-is_word_count.ensures.gives;
-}
+pub returns-in_err-words : goal.returns-in_err-words
+returns-in_err-words c =
+    let fault = c.in_err-words.field-0.0 in
+    let why : c.new.result ≡ Err fault.refusal = search rules in
+    let what : fault ≡ record { refusal = fault.refusal; offset = c.args.self.now.position } = search rules in
+    let no = words_refused c.in_ok-code.code (number fault.refusal) (ap refused_by (sym why) ∙ c.new.ensures.answer) in
+    refused _ _ fault.refusal _ (search rules) (bad_byte c.args.self.now.bytes.now c.args.self.now.position c.in_ok-code.code c.in_ok-code.ensures (rw no.0 (wrong_words no.1)))
 
 pub returns : goal.returns
 returns c =
-    let known = c.is_word_count.ensures.0 c.if-not-is_word_count.false in
-    record {
-      same = search rules;
-      reads = byte_said at_words (at_count c.in-Some.words) c.args.self.now.bytes.now c.args.self.now.position c.in-Some.words (words c.in-Some.words) (stage.CardCount c.in-Some.words) c.in-Some.ensures (some_words known.0 known.1) refl (λ ps e x. x);
-    }
+    let why : c.new.result ≡ Ok c.in_ok-words.words = search rules in
+    let what : c.in_ok-words.words ≡ c.in_ok-code.code = search rules in
+    let yes = words_taken c.in_ok-code.code (ap refused_by (sym why) ∙ c.new.ensures.answer) in
+    byte_given at_words (at_count c.in_ok-code.code) c.args.self.now _ c.in_ok-code.code (words c.in_ok-code.code) _ c.in_ok-code.ensures (cc) refl refl (some_words yes.0 yes.1) refl (λ ps e x. rw what x)

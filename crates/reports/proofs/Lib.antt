@@ -1,6 +1,0 @@
-mod Cards
-mod Keys
-mod Lines
-mod Openings
-mod Runs
-mod Said
