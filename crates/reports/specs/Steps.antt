@@ -1,24 +1,35 @@
 -- Inner to a run: what its steps keep.
 --   Whole         all of some tray is to come
+--   PartToCome    a part is to come from a reader, or a fault
+--   found         a part that was found, or a fault, as what a request gave
 --   ToCome        these cards are to come, and then this ending
 --   OpensAs       a tray opens so, and these cards are to come from the reader
 --   OpensTo       what reading up to the cards gives
 --   ReadyTo       a reader that was brought before the cards has them to come
 --   PresentsTo    what presenting the cards gives
 -- Assumes nothing.
-use Rattle.std.specs.Prelude.{◌≡◌, ℕ, List, ◌++◌, None, Ok, Err, Result}
+use Rattle.std.specs.Prelude.{◌≡◌, ℕ, List, ◌++◌, Some, None, Ok, Err, Option, Result}
 use Rattle.sharing.specs.Refusals.{refuses_policy}
-use Rattle.trays.specs.Answers.{Reading}
+use Rattle.trays.specs.Answers.{Reading, due, over}
 use Rattle.trays.specs.Fields.{field_number}
 use Rattle.trays.specs.Layout.{Ending, ended, fault, Placed, at_field, at_cards, Reads}
 use Rattle.reports.specs.Runs.{StopsEarly, Stops, opening}
 use Rattle.reports.specs.declared.opening.Opening.{Opening}
+use Rattle.trays.specs.declared.item.Fault.{Fault}
+use Rattle.trays.specs.declared.item.Item.{Item}
 use Rattle.trays.specs.declared.reader.TrayReader.{TrayReader}
 use Rattle.reports.specs.declared.report.Layer.TheVariants as layer
 use Rattle.reports.specs.declared.report.Stop.{Stop}
 
 abbrev pub Whole : List Placed → Ending → Type 0
 Whole parts e = (bytes : List ℕ) × Reads at_field 0 bytes parts e
+
+abbrev pub PartToCome : TrayReader → Type 0
+PartToCome t = (parts : List Placed) (e : Ending) → Reading t parts e → due parts e ≡ over ended → ⊥
+
+abbrev pub found : Result Item Fault → Result (Option Item) Fault
+found (Ok i) = Ok (Some i)
+found (Err f) = Err f
 
 abbrev pub ToCome : ℕ → ℕ → List Placed → Ending → Type 0
 ToCome w n cards e = (at : ℕ) × (bytes : List ℕ) × Reads (at_cards w n) at bytes cards e

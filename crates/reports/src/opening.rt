@@ -1,10 +1,10 @@
 // Reads a tray up to its cards.
 ghost use Rattle.std.specs.Prelude.{◌≡◌, ℕ, ◌-◌, ◌≤◌, List, Some, None, MatchResult};
 ghost use Rattle.sharing.specs.Refusals.{refuses_policy};
-ghost use Rattle.trays.specs.Answers.{Reading};
+ghost use Rattle.trays.specs.Answers.{NextSaid, Reading};
 ghost use Rattle.trays.specs.Layout.{Placed, Ending};
 ghost use Rattle.reports.specs.Runs.{Stops};
-ghost use Rattle.reports.specs.Steps.{OpensTo, ReadyTo, Whole};
+ghost use Rattle.reports.specs.Steps.{OpensTo, PartToCome, ReadyTo, Whole, found};
 ghost use Rattle.reports.specs.declared.report.Layer.TheVariants as layer;
 
 use crate::report::{Layer, Stop};
@@ -33,6 +33,18 @@ impl From<Fault> for Stop {
             offset: fault.offset,
         }
     }
+}
+
+// The part that is to come.
+pub(crate) fn part<'a>(reader: &mut TrayReader<'a>) -> Result<Item<'a>, Fault>
+    requires { PartToCome reader.old }
+    ensures same { reader.new.bytes ≡ reader.old.bytes }
+    ensures reads { NextSaid reader.old (found result) reader.new }
+{
+    let Some(item) = reader.next()? else {
+        unreachable()
+    };
+    Ok(item)
 }
 
 // The policy with the thresholds, the first of which stands at `offset`. Their part begins one byte earlier, with their count.
@@ -64,18 +76,18 @@ pub(crate) fn open(reader: &mut TrayReader) -> Result<Opening, Stop>
     ensures parts { (parts : List Placed) (e : Ending) → Reading reader.old parts e → OpensTo result reader.new parts e }
     ensures ready { ReadyTo result reader.new }
 {
-    let Some(Item::Field(field)) = reader.next()? else {
+    let Item::Field(field) = part(reader)? else {
         unreachable()
     };
-    let Some(Item::Thresholds { bytes, offset }) = reader.next()? else {
+    let Item::Thresholds { bytes, offset } = part(reader)? else {
         unreachable()
     };
     let policy = policy_at(bytes, offset)?;
-    let Some(Item::Words(words)) = reader.next()? else {
+    let Item::Words(words) = part(reader)? else {
         unreachable()
     };
     let words = word_count(words);
-    let Some(Item::CardCount(cards)) = reader.next()? else {
+    let Item::CardCount(cards) = part(reader)? else {
         unreachable()
     };
     Ok(Opening {

@@ -1,4 +1,7 @@
 // What a run of a tray reports.
+ghost use Rattle.std.specs.Prelude.{◌≡◌};
+ghost use Rattle.sharing.specs.declared.refusal.Refusal.TheVariants as refusal;
+
 use arrayvec::ArrayVec;
 use pools::judgement::Judgement;
 use pools::key::Key;
@@ -25,6 +28,8 @@ pub struct RefusedCard {
 
 // What stands in an unused place.
 impl Default for RefusedCard {
+    ghost is_default = { λ c. c ≡ record { ordinal = 0; offset = 0; refusal = refusal.TrayEndsEarly } };
+
     fn default() -> RefusedCard {
         RefusedCard {
             ordinal: 0,

@@ -3,11 +3,11 @@ ghost use Rattle.std.specs.Prelude.{◌≡◌, ◌+◌, ◌<◌, ◌≤◌, List
 ghost use Rattle.pools.specs.Pools.{Frame};
 ghost use Rattle.pools.specs.Sessions.{none_yet, present, step, refuses_card};
 ghost use Rattle.trays.specs.Answers.{Reading};
-ghost use Rattle.trays.specs.Cards.{Sized};
-ghost use Rattle.trays.specs.Layout.{Placed, Ending};
+ghost use Rattle.trays.specs.Layout.{Placed, Ending, card_size};
 ghost use Rattle.reports.specs.Runs.{Concludes, Judges, card_in, list_after, told, turned_by, turned_from};
 ghost use Rattle.reports.specs.Steps.{PresentsTo, ToCome};
 
+use crate::opening::part;
 use crate::report::{Judged, MOST_CARDS, RefusedCard, Stop};
 use arrayvec::ArrayVec;
 use fields::Field;
@@ -26,7 +26,7 @@ pub(crate) struct Session<F: Field> {
 impl<F: Field> Session<F> {
     // Presents the card at an index, which counts from 0; a refusal is kept, and stops nothing.
     fn present(&mut self, index: u8, bytes: &[u8], offset: usize)
-        requires sized { Sized self.old.pool.words bytes.now }
+        requires long { length bytes.now ≡ card_size self.old.pool.words }
         requires room { (length self.old.refused.items < 255) × (index < 255) }
         ensures list { self.new.pool.list ≡ step (F.Field.arithmetic self.old.pool.field) self.old.pool.policy self.old.pool.words self.old.pool.list (present (card_in self.old.pool.words bytes.now)) }
         ensures frame { Frame self.old.pool self.new.pool }
@@ -58,14 +58,12 @@ impl<F: Field> Session<F> {
         ensures all { (ps : List Placed) (e : Ending) → Reading reader.old ps e → (turned_by self.new.refused.items ≡ turned_from (F.Field.arithmetic self.old.pool.field) self.old.pool.policy self.old.pool.words [] ps) × (self.new.pool.list ≡ list_after (F.Field.arithmetic self.old.pool.field) self.old.pool.policy self.old.pool.words ps) × PresentsTo result e }
     {
         for i in 0..cards {
-            let Some(Item::Card { bytes, offset }) = reader.next()? else {
+            let Item::Card { bytes, offset } = part(reader)? else {
                 unreachable()
             };
             self.present(i, bytes, offset);
         }
-        let None = reader.next()? else {
-            unreachable()
-        };
+        let None = reader.next()? else { unreachable() };
         Ok(())
     }
 

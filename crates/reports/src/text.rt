@@ -1,14 +1,11 @@
 // The text of a report.
-ghost use Rattle.std.specs.Prelude.{◌≡◌, ◌++◌, IfOk, Some, string_bytes, OnOk};
-ghost use Rattle.std.specs.List.{flat_map};
-ghost use Rattle.reports.specs.Report.{conclusion_text, fault_line, header_line, header_text, layer_name, refused_line, report_text, verdict_line, words_text};
+ghost use Rattle.std.specs.Prelude.{◌≡◌, ◌++◌, IfOk, Some, string_bytes};
+ghost use Rattle.reports.specs.Report.{counts_line, fault_line, header_line, layer_name, refused_line, report_text, verdict_line};
 
 use crate::report::{Header, Judged, Layer, RefusedCard, Stop, TrayReport};
 use pools::judgement::Judgement;
-use pools::key::Key;
 use std::alloc::Global;
 use std::fmt;
-use std::fmt::Write;
 
 impl fmt::Display for Header {
     ghost output = { λ h. Some (header_line h) };
@@ -58,75 +55,48 @@ impl fmt::Display for Stop {
     }
 }
 
-// Adds the words of a key, each after a space.
-fn write_words(text: &mut String, words: &[u32]) -> Result<(), fmt::Error>
-    ensures { OnOk result (string_bytes text.new ≡ string_bytes text.old ++ words_text words.now) }
-{
-    for v in words {
-        write!(text, " {v}")?;
-    }
-    Ok(())
-}
+// The counts and the verdict; a key's words stand each after a space.
+impl fmt::Display for Judged {
+    ghost output = { λ j. Some (counts_line j.held j.turned ++ verdict_line j.verdict) };
 
-// Adds a line for each card that was turned away.
-fn write_refused(text: &mut String, refused: &[RefusedCard]) -> Result<(), fmt::Error>
-    ensures { OnOk result (string_bytes text.new ≡ string_bytes text.old ++ flat_map refused_line refused.now) }
-{
-    for card in refused {
-        write!(text, "{card}")?;
-    }
-    Ok(())
-}
-
-// Adds the verdict's line.
-fn write_verdict(text: &mut String, judgement: Judgement<Key>) -> Result<(), fmt::Error>
-    ensures { OnOk result (string_bytes text.new ≡ string_bytes text.old ++ verdict_line judgement) }
-{
-    match judgement {
-        Judgement::Contradictory => write!(text, "contradictory\n")?,
-        Judgement::Open => write!(text, "open\n")?,
-        Judgement::Key(key) => {
-            write!(text, "key")?;
-            write_words(text, key.as_slice())?;
-            write!(text, "\n")?;
+    fn fmt<W: fmt::Write>(&self, f: &mut fmt::Formatter<W>) -> fmt::Result {
+        let held = self.held;
+        let turned = self.turned;
+        write!(f, "held {held} turned {turned}\n")?;
+        match self.verdict {
+            Judgement::Contradictory => write!(f, "contradictory\n"),
+            Judgement::Open => write!(f, "open\n"),
+            Judgement::Key(key) => {
+                write!(f, "key")?;
+                for word in key.as_slice() {
+                    write!(f, " {word}")?;
+                }
+                write!(f, "\n")
+            }
         }
     }
-    Ok(())
 }
 
-// Adds the first line, if there is one.
-fn write_header(text: &mut String, header: Option<Header>) -> Result<(), fmt::Error>
-    ensures { OnOk result (string_bytes text.new ≡ string_bytes text.old ++ header_text header) }
-{
-    if let Some(header) = header {
-        write!(text, "{header}")?;
-    }
-    Ok(())
-}
+impl fmt::Display for TrayReport {
+    ghost output = { λ r. Some (report_text r) };
 
-// Adds the counts and the verdict, or what stopped the run.
-fn write_conclusion(text: &mut String, conclusion: Result<Judged, Stop>) -> Result<(), fmt::Error>
-    ensures { OnOk result (string_bytes text.new ≡ string_bytes text.old ++ conclusion_text conclusion) }
-{
-    match conclusion {
-        Ok(judged) => {
-            let held = judged.held;
-            let turned = judged.turned;
-            write!(text, "held {held} turned {turned}\n")?;
-            write_verdict(text, judged.verdict)?;
+    fn fmt<W: fmt::Write>(&self, f: &mut fmt::Formatter<W>) -> fmt::Result {
+        if let Some(header) = self.header {
+            write!(f, "{header}")?;
         }
-        Err(stop) => write!(text, "{stop}")?,
+        for card in self.refused.as_slice() {
+            write!(f, "{card}")?;
+        }
+        match self.conclusion {
+            Ok(judged) => write!(f, "{judged}"),
+            Err(stop) => write!(f, "{stop}"),
+        }
     }
-    Ok(())
 }
 
 // The text of a report.
 pub fn report_text(heap: Global, report: &TrayReport) -> Result<String, fmt::Error>
     ensures { IfOk result (λ s. string_bytes s ≡ report_text report.now) }
 {
-    let mut text = String::new(heap);
-    write_header(&mut text, report.header)?;
-    write_refused(&mut text, report.refused.as_slice())?;
-    write_conclusion(&mut text, report.conclusion)?;
-    Ok(text)
+    Ok(report.to_string(heap)?)
 }

@@ -1,0 +1,3 @@
+mod Cards
+mod Openings
+mod Said
