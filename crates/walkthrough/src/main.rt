@@ -4,14 +4,16 @@
 
 ghost use Rattle.std.specs.Prelude.{◌≡◌, length, replicate};
 
-use fields::prime::{WIDE_FIELD, WideModulus};
+use fields::prime::WIDE_FIELD;
 use pools::judgement::Judgement;
+use pools::key::Key;
 use pools::pool::Pool;
 use pools::session::{Reply, Request, run_session};
 use sharing::dealing::{LoadedDealing, OpenedDealing};
 use sharing::policy::Policy;
 use sharing::refusal::Refusal;
 use sharing::words::WordCount;
+use std::array;
 
 const THRESHOLDS: [u8; 3] = [3, 10, 20];
 
@@ -21,7 +23,7 @@ const COEFFICIENTS: usize = 40;
 // ids are given as people join, from 1 on
 const PEOPLE: usize = 31;
 
-#[derive(Clone, Copy)]
+#[derive(Clone, Copy, Default)]
 struct IssuedCard {
     level: u8,
     id: u32,
@@ -47,11 +49,7 @@ fn role(level: u8) -> &'static str {
 
 // Numbers that anybody can work out again. A real dealer draws them at random and tells nobody.
 fn sample_coefficients() -> [u32; COEFFICIENTS] {
-    let mut coefficients = [0; COEFFICIENTS];
-    for i in 0..COEFFICIENTS {
-        coefficients[i] = (7919 * i as u32 + 11) % 65537;
-    }
-    coefficients
+    array::from_fn(|i| (7919 * (i as u32 % 40) + 11) % 65537)
 }
 
 fn issue_one(dealing: &LoadedDealing, id: u32) -> Result<IssuedCard, Refusal> {
@@ -67,15 +65,12 @@ fn issue_all(
     dealing: &LoadedDealing,
     cards: &mut [IssuedCard],
 ) -> anyhow::Result<()> {
-    let mut id = 1u32;
-    for card in cards.iter_mut() {
-        let issued = issue_one(dealing, id)?;
-        *card = issued;
-        let who = role(issued.level);
-        let level = issued.level;
-        let [first, second] = issued.values;
+    for (id, card) in (1u32..).zip(cards.iter_mut()) {
+        *card = issue_one(dealing, id)?;
+        let who = role(card.level);
+        let level = card.level;
+        let [first, second] = card.values;
         println!(rt; "  {who}: level {level} id {id} values {first} {second}")?;
-        id = id.saturating_add(1);
     }
     Ok(())
 }
@@ -98,10 +93,9 @@ fn deal(
 
 // The request that presents the card of this id.
 fn presenting(cards: &[IssuedCard; PEOPLE], id: usize) -> Request<'_> {
-    if id == 0 || id > PEOPLE {
+    let Some(card) = cards.get(id.wrapping_sub(1)) else {
         return Request::Held;
-    }
-    let card = &cards[id - 1];
+    };
     Request::Present {
         level: card.level,
         id: card.id,
@@ -109,20 +103,29 @@ fn presenting(cards: &[IssuedCard; PEOPLE], id: usize) -> Request<'_> {
     }
 }
 
-fn tell(rt: &HostRuntime, asked: &str, reply: Reply) -> anyhow::Result<()> {
+fn tell_judgement(rt: &HostRuntime, judgement: Judgement<Key>) -> anyhow::Result<()> {
+    match judgement {
+        Judgement::Contradictory => println!(rt; "contradictory")?,
+        Judgement::Open => println!(rt; "open")?,
+        Judgement::Key(key) => {
+            print!(rt; "key")?;
+            for word in key.as_slice() {
+                print!(rt; " {word}")?;
+            }
+            println!(rt; "")?;
+        }
+    }
+    Ok(())
+}
+
+fn tell(rt: &HostRuntime, asked: &str, reply: Result<Reply, Refusal>) -> anyhow::Result<()> {
     print!(rt; "  {asked}: ")?;
     match reply {
-        Reply::Done => println!(rt; "done")?,
-        Reply::Refused(refusal) => println!(rt; "refused, {refusal}")?,
-        Reply::Number(number) => println!(rt; "{number}")?,
-        Reply::Truth(met) => println!(rt; "{met}")?,
-        Reply::Contradictory => println!(rt; "contradictory")?,
-        Reply::Open => println!(rt; "open")?,
-        Reply::Key(words) => {
-            let first = words[0];
-            let second = words[1];
-            println!(rt; "key {first} {second}")?;
-        }
+        Ok(Reply::Done) => println!(rt; "done")?,
+        Ok(Reply::Number(number)) => println!(rt; "{number}")?,
+        Ok(Reply::Truth(met)) => println!(rt; "{met}")?,
+        Ok(Reply::Judged(judgement)) => tell_judgement(rt, judgement)?,
+        Err(refusal) => println!(rt; "refused, {refusal}")?,
     }
     Ok(())
 }
@@ -198,11 +201,11 @@ fn sitting(
     cards: &[IssuedCard; PEOPLE],
 ) -> anyhow::Result<()> {
     let requests = script(cards, &[1, 2]);
-    let mut replies = [Reply::Done; REQUESTS];
+    let mut replies = [Ok(Reply::Done); REQUESTS];
     run_session(WIDE_FIELD, policy, words, &requests, &mut replies);
     println!(rt; "a sitting:")?;
-    for i in 0..REQUESTS {
-        tell(rt, ASKED[i], replies[i])?;
+    for (asked, reply) in ASKED.iter().zip(&replies) {
+        tell(rt, asked, *reply)?;
     }
     Ok(())
 }
@@ -214,16 +217,14 @@ fn three_directors(
     cards: &[IssuedCard; PEOPLE],
     dealt: [u32; WORDS],
 ) -> Result<bool, Refusal> {
-    let mut pool: Pool<fields::prime::WideField> = Pool::new(WIDE_FIELD, policy, words);
-    pool.present(cards[5].level, cards[5].id, &cards[5].values)?;
-    pool.present(cards[7].level, cards[7].id, &cards[7].values)?;
-    pool.present(cards[9].level, cards[9].id, &cards[9].values)?;
-    let mut key = [0; WORDS];
-    match pool.judge(&mut key)? {
-        Judgement::Key => Ok(key == dealt),
-        Judgement::Open => Ok(false),
-        Judgement::Contradictory => Ok(false),
+    let mut pool = Pool::new(WIDE_FIELD, policy, words);
+    for card in [&cards[5], &cards[7], &cards[9]] {
+        pool.present(card.level, card.id, &card.values)?;
     }
+    let Judgement::Key(key) = pool.verdict() else {
+        return Ok(false);
+    };
+    Ok(key.as_slice() == dealt.as_slice())
 }
 
 fn run(rt: &HostRuntime) -> anyhow::Result<()> {
@@ -238,12 +239,7 @@ fn run(rt: &HostRuntime) -> anyhow::Result<()> {
     let dealt = [coefficients[19], coefficients[39]];
     opened.trial(&WIDE_FIELD, &coefficients)?;
     println!(rt; "tried: the 40 coefficients fit")?;
-    let blank = IssuedCard {
-        level: 0,
-        id: 0,
-        values: [0; WORDS],
-    };
-    let mut cards = [blank; PEOPLE];
+    let mut cards = [IssuedCard::default(); PEOPLE];
     deal(rt, opened, &mut coefficients, &mut cards)?;
     println!(rt; "ended")?;
     if coefficients == [0; COEFFICIENTS] {
