@@ -2,12 +2,13 @@
 --   apart        of the parts that may stand at a place, none is the beginning of another
 --   goes_on, stops, ends   what a reading is where a part stands, where something is wrong, and at the end
 --   once         from one place on there is no second reading
---   reads_from   from each place on there is a reading
---   one_way      both, of a whole tray
-use Rattle.std.proofs.Common.{◌≡◌, ℕ, zero, suc, ◌+◌, ◌-◌, ◌<◌, ◌≤◌, List, [], ◌∷◌, ◌++◌, length, take, drop, replicate, sym, refl, ap, ◌∙◌, subst, arith}
+--   no_field, no_thresholds, few_thresholds, no_words, no_count, half_card   what is cut short
+--   one_reading  from each place on there is a reading, and no other
+--   one_way      this of a whole tray
+use Rattle.std.proofs.Common.{◌≡◌, ◌⊎◌, inl, inr, ℕ, zero, suc, ◌+◌, ◌-◌, ◌<◌, ◌≤◌, List, [], ◌∷◌, ◌++◌, length, take, drop, replicate, sym, refl, ap, ◌∙◌, subst, arith}
 use native.Mathlib.Decide.{dec_le}
 use Rattle.std.proofs.lemmas.List.{append-nil, append_assoc, length-append, length-replicate, length-take-le, take_at, drop_at, take-append-drop}
-use Rattle.trays.specs.Layout.{Part, thresholds, card, written, Next, at_field, at_thresholds, at_words, at_count, at_cards, card_size, Follows, a_field, some_thresholds, some_words, a_count, a_card, Wrong, cut_short, unknown_field, wrong_words, more_bytes, Ending, ended, fault, Placed, Reads, done, broken, then, TrayReadsOneWay}
+use Rattle.trays.specs.Layout.{Part, thresholds, card, written, Next, at_field, at_thresholds, at_words, at_count, at_cards, card_size, Follows, a_field, some_thresholds, some_words, a_count, a_card, Wrong, cut_short, unknown_field, wrong_words, more_bytes, Ending, ended, fault, Placed, Reads, done, broken, then, OneReading, TrayReadsOneWay}
 
 -- two lists that begin with lists of one length
 parted : (a b x y : List ℕ) → length a ≡ length b → a ++ x ≡ b ++ y → (a ≡ b) × (x ≡ y)
@@ -31,14 +32,15 @@ apart (a_card {bytes = c} h) (a_card {bytes = d} h') x y e =
     let both = parted c d x y (h ∙ sym h') e in
     (ap card both.0, refl, both.1)
 
-nothing : (xs ys : List ℕ) → xs ++ ys ≡ [] → 0 < length ys → ⊥
-nothing xs ys e h = omega (arith, length-append xs ys, ap length e)
+-- where as many bytes are there as all, none is missing
+missed : (all there missing : List ℕ) → all ≡ there ++ missing → length all ≤ length there → 0 < length missing → ⊥
+missed all there missing e l h = omega (arith, length-append there missing, ap length e)
 
 -- a part that stands there is not cut short
 not_short : {next a b : Next} {p q : Part} → Follows next p a → Follows next q b → (rest missing bytes : List ℕ) → bytes ≡ written p ++ rest → written q ≡ bytes ++ missing → 0 < length missing → ⊥
 not_short {p} {q} f g rest missing bytes e m h =
     let same : written p ++ (rest ++ missing) ≡ written q ++ [] = sym (append_assoc (written p) rest missing) ∙ ap (λ b. b ++ missing) (sym e) ∙ sym m ∙ sym (append-nil (written q)) in
-    nothing rest missing (apart f g (rest ++ missing) [] same).2 h
+    missed [] rest missing (sym (apart f g (rest ++ missing) [] same).2) (omega arith) h
 
 -- a part that stands there is not wrong
 not_wrong : {next a : Next} {p : Part} {bytes : List ℕ} {n : ℕ} (rest : List ℕ) → Follows next p a → bytes ≡ written p ++ rest → Wrong next bytes n → ⊥
@@ -47,17 +49,14 @@ not_wrong rest (a_field {b = c} l h) e (unknown_field {b} bad) = let s : b ≡ c
 not_wrong rest (some_words {w = c} l h) e (wrong_words {w} bad) = let s : w ≡ c = cc in bad (rw s l) (rw s h)
 not_wrong rest f e more_bytes = elim f [ ]
 
-one_byte : (b : ℕ) (rest missing : List ℕ) (c : ℕ) → c ∷ [] ≡ (b ∷ rest) ++ missing → 0 < length missing → ⊥
-one_byte b rest missing c e h = omega (arith, length-append rest missing, ap length e)
-
 -- one thing is wrong
 wrong_once : {next : Next} {bytes : List ℕ} {m n : ℕ} → Wrong next bytes m → Wrong next bytes n → m ≡ n
 wrong_once (cut_short m f e h) (cut_short m' g e' h') = refl
-wrong_once (cut_short missing (a_field {b = c} l g) e h) (unknown_field {b} {rest} bad) = absurd (one_byte b rest missing c e h)
-wrong_once (cut_short missing (some_words {w = c} l g) e h) (wrong_words {w} {rest} bad) = absurd (one_byte w rest missing c e h)
-wrong_once (unknown_field {b} {rest} bad) (cut_short missing (a_field {b = c} l g) e h) = absurd (one_byte b rest missing c e h)
+wrong_once (cut_short missing (a_field {b = c} l g) e h) (unknown_field {b} {rest} bad) = absurd (missed (c ∷ []) (b ∷ rest) missing e (omega arith) h)
+wrong_once (cut_short missing (some_words {w = c} l g) e h) (wrong_words {w} {rest} bad) = absurd (missed (c ∷ []) (w ∷ rest) missing e (omega arith) h)
+wrong_once (unknown_field {b} {rest} bad) (cut_short missing (a_field {b = c} l g) e h) = absurd (missed (c ∷ []) (b ∷ rest) missing e (omega arith) h)
 wrong_once (unknown_field bad) (unknown_field bad') = refl
-wrong_once (wrong_words {w} {rest} bad) (cut_short missing (some_words {w = c} l g) e h) = absurd (one_byte w rest missing c e h)
+wrong_once (wrong_words {w} {rest} bad) (cut_short missing (some_words {w = c} l g) e h) = absurd (missed (c ∷ []) (w ∷ rest) missing e (omega arith) h)
 wrong_once (wrong_words bad) (wrong_words bad') = refl
 wrong_once (cut_short m f e h) more_bytes = elim f [ ]
 wrong_once more_bytes (cut_short m g e h) = elim g [ ]
@@ -137,6 +136,14 @@ pub full_thresholds : (n : ℕ) (rest : List ℕ) → n ≤ length rest → n �
 full_thresholds n rest h =
     ap (λ m. m ∷ rest) (sym (length-take-le n rest h)) ∙ ap (λ xs. length (take n rest) ∷ xs) (sym (take-append-drop n rest))
 
+-- a number is one of the first ones, or not
+within : (b most : ℕ) → ((1 ≤ b) × (b ≤ most)) ⊎ (1 ≤ b → b ≤ most → ⊥)
+within b most =
+    elim (dec_le 1 b) [
+      | yes l ↦ elim (dec_le b most) [ yes h ↦ inl (l, h) | no h ↦ inr (λ _ k. h k) ]
+      | no l ↦ inr (λ k _. l k)
+    ]
+
 -- there is a reading from each place on
 reads_cards : (w n at : ℕ) (bytes : List ℕ) → SomeReading (at_cards w n) at bytes
 reads_cards w zero at [] = ([], ended, done)
@@ -154,12 +161,9 @@ reads_count w at (n ∷ rest) = one_more (n ∷ rest) rest a_count refl (reads_c
 reads_words : (at : ℕ) (bytes : List ℕ) → SomeReading at_words at bytes
 reads_words at [] = ([], fault 1 at, broken no_words)
 reads_words at (w ∷ rest) =
-    elim (dec_le 1 w) [
-      | yes l ↦ elim (dec_le w 16) [
-        | yes h ↦ one_more (w ∷ rest) rest (some_words l h) refl (reads_count w (at + 1) rest)
-        | no h ↦ ([], fault 5 at, broken (wrong_words (λ _ k. h k)))
-      ]
-      | no l ↦ ([], fault 5 at, broken (wrong_words (λ k _. l k)))
+    elim (within w 16) [
+      | inl k ↦ one_more (w ∷ rest) rest (some_words k.0 k.1) refl (reads_count w (at + 1) rest)
+      | inr out ↦ ([], fault 5 at, broken (wrong_words out))
     ]
 
 reads_thresholds : (at : ℕ) (bytes : List ℕ) → SomeReading at_thresholds at bytes
@@ -173,22 +177,23 @@ reads_thresholds at (n ∷ rest) =
 reads_field : (at : ℕ) (bytes : List ℕ) → SomeReading at_field at bytes
 reads_field at [] = ([], fault 1 at, broken no_field)
 reads_field at (b ∷ rest) =
-    elim (dec_le 1 b) [
-      | yes l ↦ elim (dec_le b 2) [
-        | yes h ↦ one_more (b ∷ rest) rest (a_field l h) refl (reads_thresholds (at + 1) rest)
-        | no h ↦ ([], fault 2 at, broken (unknown_field (λ _ k. h k)))
-      ]
-      | no l ↦ ([], fault 2 at, broken (unknown_field (λ k _. l k)))
+    elim (within b 2) [
+      | inl k ↦ one_more (b ∷ rest) rest (a_field k.0 k.1) refl (reads_thresholds (at + 1) rest)
+      | inr out ↦ ([], fault 2 at, broken (unknown_field out))
     ]
 
-pub reads_from : (next : Next) (at : ℕ) (bytes : List ℕ) → SomeReading next at bytes
+reads_from : (next : Next) (at : ℕ) (bytes : List ℕ) → SomeReading next at bytes
 reads_from at_field at bytes = reads_field at bytes
 reads_from at_thresholds at bytes = reads_thresholds at bytes
 reads_from at_words at bytes = reads_words at bytes
 reads_from (at_count w) at bytes = reads_count w at bytes
 reads_from (at_cards w n) at bytes = reads_cards w n at bytes
 
-pub one_way : TrayReadsOneWay
-one_way bytes =
-    let r = reads_field 0 bytes in
+-- from each place on there is one reading, and no other
+pub one_reading : (next : Next) (at : ℕ) (bytes : List ℕ) → OneReading (Reads next at bytes)
+one_reading next at bytes =
+    let r = reads_from next at bytes in
     (r.0, r.1, r.2, λ others f s. once r.2 s)
+
+pub one_way : TrayReadsOneWay
+one_way bytes = one_reading at_field 0 bytes

@@ -4,21 +4,16 @@
 use Rattle.std.proofs.Common.{◌≡◌, ℕ, zero, suc, List, [], ◌∷◌, drop, refl, subst}
 use Rattle.trays.specs.declared.reader.Stage.{Stage}
 use Rattle.trays.specs.declared.reader.Stage.TheVariants as stage
-use Rattle.trays.specs.Layout.{Next, at_field, at_thresholds, at_words, at_count, at_cards, ended, Placed, Reads, OneReading}
+use Rattle.trays.specs.Layout.{at_field, at_thresholds, at_words, at_count, at_cards, ended, Placed, OneReading}
 use Rattle.trays.specs.Answers.{as_ending, rest, From, Reading, ReaderReadsOneWay, RequestsInOrder}
-use Rattle.trays.proofs.OneWay.{once, reads_from}
-
-from_next : (next : Next) (at : ℕ) (bytes : List ℕ) → OneReading (Reads next at bytes)
-from_next next at bytes =
-    let r = reads_from next at bytes in
-    (r.0, r.1, r.2, λ others f o. once r.2 o)
+use Rattle.trays.proofs.OneWay.{one_reading}
 
 from_stage : (s : Stage) (at : ℕ) (bytes : List ℕ) → OneReading (From s at bytes)
-from_stage stage.Field at bytes = from_next at_field at (drop at bytes)
-from_stage stage.Thresholds at bytes = from_next at_thresholds at (drop at bytes)
-from_stage stage.Words at bytes = from_next at_words at (drop at bytes)
-from_stage (stage.CardCount w) at bytes = from_next (at_count w) at (drop at bytes)
-from_stage (stage.Cards w n) at bytes = from_next (at_cards w n) at (drop at bytes)
+from_stage stage.Field at bytes = one_reading at_field at (drop at bytes)
+from_stage stage.Thresholds at bytes = one_reading at_thresholds at (drop at bytes)
+from_stage stage.Words at bytes = one_reading at_words at (drop at bytes)
+from_stage (stage.CardCount w) at bytes = one_reading (at_count w) at (drop at bytes)
+from_stage (stage.Cards w n) at bytes = one_reading (at_cards w n) at (drop at bytes)
 from_stage stage.End at bytes = ([], ended, (refl, refl), λ others f o. o)
 from_stage (stage.Faulted k) at bytes = ([], as_ending k, (refl, refl), λ others f o. o)
 

@@ -1,17 +1,21 @@
 -- What a request says agrees with the layout, for each thing that a reader may find where it stands.
 --   cut          bytes cut out of others: how many they are, and what stands before and behind the cut
---   none_left    no byte is left where one has to be
 --   begins       what is left begins with a byte
---   bad_byte     a byte is there, and what is there is wrong
 --   refused      what is there is wrong, and the fault is said
+--   no_byte      the same, where no byte is left
+--   wrong_byte   the same, where a byte is left
 --   given        a part is there, and it is said
---   byte_given   a part of one byte is there, and it is said
+--   byte_given   the same of a part of one byte
 --   ended_here   no card is to come and no byte is left
+--   field_follows, card_follows   a field, or a card, may stand where one is to come
+--   no_card      a card is to come, and fewer bytes are left
+--   words_refused, words_taken    which numbers of words are refused, and by which number, and which are not
 use Rattle.std.proofs.Common.{◌≡◌, ℕ, zero, suc, ◌+◌, ◌-◌, ◌<◌, ◌≤◌, List, [], ◌∷◌, ◌++◌, length, get_or, take, drop, Ok, Err, Some, None, Option, Result, sym, refl, ap, ◌∙◌, subst, arith}
 use native.Mathlib.Numerals.{unary_clauses}
 use Rattle.std.proofs.lemmas.Bool.Decides.{nat_tests}
 use Rattle.std.proofs.lemmas.List.{drop_more, drop_all, drop-drop, length-drop, length-take-le, take-append-drop}
 use Rattle.sharing.specs.declared.refusal.Refusal.{Refusal}
+use Rattle.sharing.specs.declared.refusal.Refusal.TheVariants as refusal
 use Rattle.sharing.specs.Refusals.{number, refuses_words}
 use Rattle.trays.specs.declared.item.Item.{Item}
 use Rattle.trays.specs.declared.item.Fault.{Fault}
@@ -31,17 +35,9 @@ cut bs p n s h = (
   sym (take-append-drop n (drop p bs)) ∙ ap (λ x. x ++ drop n (drop p bs)) (sym h.1) ∙ ap (λ x. s ++ x) (drop-drop n p bs),
 )
 
--- no byte is left
-pub none_left : {next : Next} {n : ℕ} (bs : List ℕ) (p : ℕ) → length bs ≤ p → Wrong next [] n → Wrong next (drop p bs) n
-none_left {next} {n} bs p h w = subst (λ b. Wrong next b n) (sym (drop_all p bs h)) w
-
 -- what is left begins with a byte
 pub begins : (bs : List ℕ) (p b : ℕ) → (p < length bs) × (b ≡ get_or bs p 0) → b ∷ drop (p + 1) bs ≡ drop p bs
 begins bs p b h = ap (λ x. x ∷ drop (p + 1) bs) h.1 ∙ sym (drop_more bs p 0 h.0)
-
--- a byte is there, and what is there is wrong
-pub bad_byte : {next : Next} {n : ℕ} (bs : List ℕ) (p b : ℕ) → (p < length bs) × (b ≡ get_or bs p 0) → Wrong next (b ∷ drop (p + 1) bs) n → Wrong next (drop p bs) n
-bad_byte {next} {n} bs p b h w = subst (λ x. Wrong next x n) (begins bs p b h) w
 
 -- what is there is wrong, and the fault is said
 pub refused : (next : Next) (t : TrayReader) (k : Refusal) (r : Result (Option Item) Fault) → r ≡ Err (fault_at t k) → Wrong next (drop t.position t.bytes.now) (number k) → SaidFrom next t r t
@@ -50,6 +46,15 @@ refused next t k r e w =
       same = refl;
       said = λ parts ending reads. let s = stops w reads in (ap over (sym s.1) ∙ ap (λ ps. due ps ending) (sym s.0), (ap rest s.0, s.1));
     })
+
+-- no byte is left where one has to be
+pub no_byte : (next : Next) (t : TrayReader) (r : Result (Option Item) Fault) → r ≡ Err (fault_at t refusal.TrayEndsEarly) → length t.bytes.now ≤ t.position → Wrong next [] 1 → SaidFrom next t r t
+no_byte next t r e h w = refused next t refusal.TrayEndsEarly r e (rw (drop_all t.position t.bytes.now h) w)
+
+-- a byte is there, and what is there is wrong
+pub wrong_byte : (next : Next) (t : TrayReader) (k : Refusal) (r : Result (Option Item) Fault) (b : ℕ) → r ≡ Err (fault_at t k) → (t.position < length t.bytes.now) × (b ≡ get_or t.bytes.now t.position 0)
+    → Wrong next (b ∷ drop (t.position + 1) t.bytes.now) (number k) → SaidFrom next t r t
+wrong_byte next t k r b e h w = refused next t k r e (rw (← begins t.bytes.now t.position b h) w)
 
 -- a part is there, and it is said
 pub given : (next after : Next) (t u : TrayReader) (part : Part) (i : Item) → as_answer i ≡ due_part part t.position → u.bytes ≡ t.bytes → Follows next part after

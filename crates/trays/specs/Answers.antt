@@ -5,7 +5,8 @@
 --   Reading   from where a reader stands, its bytes are these parts, with this ending
 --   AtStart   a reader has all of these bytes to come
 --   NextSaid  what a request says, and what it leaves to come
---   SaidFrom, SaidFromStage   the same before a fault is kept, where this comes next, and at any stage
+--   kept      the stage of a reader once it has kept the fault that it said
+--   Said, SaidFrom   what a request says before that, of what may be to come, and of a reader that stands where this comes next
 --   fault_at  the fault where a reader stands
 --   ReaderReadsOneWay, RequestsInOrder   the theorems about it
 -- Assumes nothing.
@@ -80,22 +81,20 @@ abbrev pub NextSaid : TrayReader → Result (Option Item) Fault → TrayReader �
 NextSaid before r after =
     (parts : List Placed) (e : Ending) → Reading before parts e → (answer r ≡ due parts e) × Reading after (rest parts) e
 
--- where the reader stands once it has kept a fault that it said
+-- the stage of a reader once it has kept the fault that it said
 abbrev pub kept : Result (Option Item) Fault → Stage → Stage
 kept (Ok i) s = s
 kept (Err f) s = stage.Faulted f
 
--- the same, of a reader that stands where this comes next and has not kept a fault yet; its bytes stay
-pub record SaidFrom (next : Next) (before : TrayReader) (r : Result (Option Item) Fault) (after : TrayReader) : Type 0 where
+-- a request whose fault is still to be kept: the same, of whatever may be to come; and the reader's bytes stay as they are
+pub record Said (ToCome : List Placed → Ending → Type 0) (before : TrayReader) (r : Result (Option Item) Fault) (after : TrayReader) : Type 0 where
   pub same : after.bytes ≡ before.bytes
-  pub said : (parts : List Placed) (e : Ending) → Reads next before.position (drop before.position before.bytes.now) parts e
+  pub said : (parts : List Placed) (e : Ending) → ToCome parts e
       → (answer r ≡ due parts e) × From (kept r after.stage) after.position after.bytes.now (rest parts) e
 
--- the same, of a reader at any stage
-pub record SaidFromStage (before : TrayReader) (r : Result (Option Item) Fault) (after : TrayReader) : Type 0 where
-  pub same : after.bytes ≡ before.bytes
-  pub said : (parts : List Placed) (e : Ending) → Reading before parts e
-      → (answer r ≡ due parts e) × From (kept r after.stage) after.position after.bytes.now (rest parts) e
+-- the same, of a reader that stands where this comes next
+abbrev pub SaidFrom : Next → TrayReader → Result (Option Item) Fault → TrayReader → Type 0
+SaidFrom next before r after = Said (Reads next before.position (drop before.position before.bytes.now)) before r after
 
 -- the fault where the reader stands
 abbrev pub fault_at : TrayReader → Refusal → Fault

@@ -1,5 +1,5 @@
 // A card of a tray, taken apart.
-ghost use Rattle.std.specs.Prelude.{◌≡◌, ◌+◌, ◌-◌, ◌*◌, ◌<◌, ◌≤◌, [], ◌∷◌, ◌++◌, length, take, drop, replicate, MatchOption};
+ghost use Rattle.std.specs.Prelude.{◌≡◌, ℕ, ◌+◌, ◌-◌, ◌*◌, ◌<◌, ◌≤◌, [], ◌∷◌, ◌++◌, length, take, drop, replicate, MatchOption};
 ghost use Rattle.trays.specs.Cards.{Says, Sized, id_in, level_in, little_endian, numbers};
 
 use crate::limits::card_size;
@@ -14,66 +14,41 @@ pub struct TrayCard {
     ghost full: { length values ≡ 16 },
 }
 
-// The number that four bytes stand for, the lowest first.
-fn number(b0: u8, b1: u8, b2: u8, b3: u8) -> u32
-    ensures { result ≡ little_endian (b0 ∷ b1 ∷ b2 ∷ b3 ∷ []) }
+// The number that four bytes stand for, the lowest first. Tried, and the proof did not close: the library's method at both
+// calls.
+fn number(bytes: [u8; 4]) -> u32
+    ensures { result ≡ little_endian bytes }
 {
-    u32::from_le_bytes([b0, b1, b2, b3])
+    u32::from_le_bytes(bytes)
 }
 
-// The number in the four bytes from `at` on.
-fn number_at(bytes: &[u8], at: usize) -> u32
-    requires { at + 4 ≤ length bytes.now }
-    ensures { result ≡ little_endian (take 4 (drop at bytes.now)) }
+// The numbers of four bytes each, and zeros after them.
+fn numbers_in(bytes: &[u8]) -> [u32; MOST_WORDS]
+    requires { length bytes.now ≤ 64 }
+    ensures { (count : ℕ) → length bytes.now ≡ 4 * count → result ≡ numbers count bytes.now ++ replicate (16 - count) 0 }
 {
-    number(bytes[at], bytes[at + 1], bytes[at + 2], bytes[at + 3])
-}
-
-// The `count` numbers of four bytes each, and zeros after them.
-fn numbers_in(bytes: &[u8], count: usize) -> [u32; MOST_WORDS]
-    requires { (count ≤ 16) × (4 * count ≤ length bytes.now) }
-    ensures { result ≡ numbers count bytes.now ++ replicate (16 - count) 0 }
-{
-    let mut values = [0u32; MOST_WORDS];
-    for i in 0..count {
-        values[i] = number_at(bytes, 4 * i);
+    let (chunks, _) = bytes.as_chunks::<4>();
+    let mut values = [0; MOST_WORDS];
+    // Tried, and the proof did not close: `array::from_fn(|i| chunks.get(i).map_or(0, |chunk| number(*chunk)))`.
+    for (i, chunk) in chunks.iter().enumerate() {
+        values[i] = number(*chunk);
     }
     values
-}
-
-// A card's bytes taken apart; the values are lent.
-#[derive(Clone, Copy)]
-struct CardParts<'a> {
-    level: u8,
-    id: u32,
-    values: &'a [u8],
-}
-
-fn parts_of<'a>(bytes: &'a [u8]) -> Option<CardParts<'a>>
-    ensures { MatchOption result (length bytes.now < 5) (λ p. (p.level ≡ level_in bytes.now) × (p.id ≡ id_in bytes.now) × (p.values.now ≡ drop 5 bytes.now)) }
-{
-    let [level, i0, i1, i2, i3, values @ ..] = bytes else {
-        return None;
-    };
-    Some(CardParts {
-        level: *level,
-        id: number(*i0, *i1, *i2, *i3),
-        values,
-    })
 }
 
 // The card in `bytes`, if they are as long as a card with so many words.
 pub fn card_of(bytes: &[u8], words: u8) -> Option<TrayCard>
     ensures { MatchOption result (Sized words bytes.now → ⊥) (λ c. Says words bytes.now c.level c.id c.values) }
 {
-    WordCount::new(words).ok()?;
-    if bytes.len() != card_size(words) {
+    let words = WordCount::new(words).ok()?;
+    if bytes.len() != card_size(words.get()) {
         return None;
     }
-    let parts = parts_of(bytes)?;
+    let (level, rest) = bytes.split_first()?;
+    let (id, values) = rest.split_first_chunk()?;
     Some(TrayCard {
-        level: parts.level,
-        id: parts.id,
-        values: numbers_in(parts.values, words as usize),
+        level: *level,
+        id: number(*id),
+        values: numbers_in(values),
     })
 }

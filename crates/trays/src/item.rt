@@ -14,7 +14,7 @@ pub struct Fault {
 pub enum Item<'a> {
     Field(TrayField),
     Thresholds { bytes: &'a [u8], offset: usize },
-    // A number: an item that holds a `WordCount` can go through no `?` yet.
+    // A number: tried, and the proof did not close, a `WordCount`, with which an item goes through no `?`.
     Words(u8),
     CardCount(u8),
     Card { bytes: &'a [u8], offset: usize },

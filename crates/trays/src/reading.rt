@@ -1,6 +1,6 @@
 // Reads a tray part by part.
 ghost use Rattle.std.specs.Prelude.{◌≡◌, ℕ, ◌+◌, ◌<◌, ◌≤◌, length, take, drop, MatchResult, slice_index};
-ghost use Rattle.trays.specs.Answers.{AtStart, NextSaid, SaidFrom, SaidFromStage, fault_at};
+ghost use Rattle.trays.specs.Answers.{AtStart, NextSaid, Reading, Said, SaidFrom, fault_at};
 ghost use Rattle.trays.specs.Layout.{at_field, at_thresholds, at_words, at_count, at_cards, OneReading, Reads};
 
 use crate::field::TrayField;
@@ -12,6 +12,7 @@ use sharing::words::WordCount;
 
 impl<'a> TrayReader<'a> {
     // A reader at the start of `bytes`, which are one list of parts with one ending, and no other.
+    #[tactic(auto, using(crate::proofs::OneWay::one_way))]
     pub fn new(bytes: &'a [u8]) -> TrayReader<'a>
         ensures decided { OneReading (Reads at_field 0 bytes.now) }
         ensures starts { AtStart result bytes.now }
@@ -33,7 +34,7 @@ impl<'a> TrayReader<'a> {
         }
     }
 
-    // What was read, or the fault that it was refused.
+    // What was read, or the fault where it was refused.
     fn accepted<T>(&self, read: Result<T, Refusal>) -> Result<T, Fault>
         ensures { MatchResult read (λ x. result ≡ Ok x) (λ k. result ≡ Err (fault_at self.now k)) }
     {
@@ -126,9 +127,9 @@ impl<'a> TrayReader<'a> {
         Ok(None)
     }
 
-    // What the stage asks for.
+    // Reads what comes next; a fault is still to be kept.
     fn read(&mut self) -> Result<Option<Item<'a>>, Fault>
-        ensures { SaidFromStage self.old result self.new }
+        ensures { Said (Reading self.old) self.old result self.new }
     {
         // Tried, and the proof did not close: a `match self.stage`, whose arms would copy the word count out of the stage.
         let stage = self.stage;

@@ -1,13 +1,11 @@
 use Rattle.std.proofs.Common.{refl, rules}
-use Rattle.sharing.specs.declared.refusal.Refusal.TheVariants as refusal
 use Rattle.trays.specs.Layout.{at_count, at_cards, card_count, a_count}
 use Rattle.trays.proofs.OneWay.{no_count}
-use Rattle.trays.proofs.Requests.{none_left, refused, byte_given}
+use Rattle.trays.proofs.Requests.{no_byte, byte_given}
 use Rattle.trays.proofs.reader.TrayReader.read_count.Goals as goal
 
 pub returns-in_err-left : goal.returns-in_err-left
-returns-in_err-left c =
-    refused _ _ refusal.TrayEndsEarly _ (search rules) (none_left c.args.self.now.bytes.now c.args.self.now.position c.in_err-left.ensures.0 no_count)
+returns-in_err-left c = no_byte _ _ _ (search rules) c.in_err-left.ensures.0 no_count
 
 pub returns : goal.returns
 returns c =

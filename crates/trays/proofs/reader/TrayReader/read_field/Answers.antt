@@ -4,17 +4,17 @@ use Rattle.trays.specs.Answers.{fault_at}
 use Rattle.trays.specs.Fields.{field_number}
 use Rattle.trays.specs.Layout.{at_field, at_thresholds, field, unknown_field}
 use Rattle.trays.proofs.OneWay.{no_field}
-use Rattle.trays.proofs.Requests.{none_left, bad_byte, refused, byte_given, field_follows}
+use Rattle.trays.proofs.Requests.{no_byte, wrong_byte, byte_given, field_follows}
 use Rattle.trays.proofs.reader.TrayReader.read_field.Goals as goal
 
 pub returns-in_err-code : goal.returns-in_err-code
 returns-in_err-code c =
-    refused _ _ refusal.TrayEndsEarly _ (search rules) (none_left c.args.self.now.bytes.now c.args.self.now.position c.in_err-code.ensures.0 no_field)
+    no_byte _ _ _ (search rules) c.in_err-code.ensures.0 no_field
 
 pub returns-in_err-field : goal.returns-in_err-field
 returns-in_err-field c =
     let why : c.accepted.result ≡ Err (fault_at c.args.self.now refusal.UnknownField) = search rules in
-    refused _ _ refusal.UnknownField _ (search rules) (bad_byte c.args.self.now.bytes.now c.args.self.now.position c.in_ok-code.code c.in_ok-code.ensures (unknown_field (search rules)))
+    wrong_byte _ _ refusal.UnknownField _ c.in_ok-code.code (search rules) c.in_ok-code.ensures (unknown_field (search rules))
 
 pub returns : goal.returns
 returns c =

@@ -1,20 +1,21 @@
-use Rattle.std.proofs.Common.{◌+◌, refl, rules, arith}
+use Rattle.std.proofs.Common.{◌+◌, drop, refl, rules, arith}
 use Rattle.std.proofs.lemmas.List.{length-drop}
 use Rattle.sharing.specs.declared.refusal.Refusal.TheVariants as refusal
 use Rattle.trays.specs.Layout.{at_thresholds, at_words, thresholds, some_thresholds}
 use Rattle.trays.proofs.OneWay.{no_thresholds, few_thresholds}
-use Rattle.trays.proofs.Requests.{none_left, begins, bad_byte, refused, given, cut}
+use Rattle.trays.proofs.Requests.{begins, no_byte, wrong_byte, given, cut}
 use Rattle.trays.proofs.reader.TrayReader.read_thresholds.Goals as goal
 
 pub returns-in_err-count : goal.returns-in_err-count
 returns-in_err-count c =
-    refused _ _ refusal.TrayEndsEarly _ (search rules) (none_left c.args.self.now.bytes.now c.args.self.now.position c.in_err-count.ensures.0 no_thresholds)
+    no_byte _ _ _ (search rules) c.in_err-count.ensures.0 no_thresholds
 
 pub returns-in_err-bytes : goal.returns-in_err-bytes
 returns-in_err-bytes c =
     let bs = c.args.self.now.bytes.now in
     let p = c.args.self.now.position in
-    refused _ _ refusal.TrayEndsEarly _ (search rules) (bad_byte bs p c.in_ok-count.field-0 c.in_ok-count.ensures (few_thresholds _ _ (omega (arith, length-drop (p + 1) bs, c.in_ok-count.ensures.0, c.in_err-bytes.ensures.0))))
+    let few = few_thresholds c.in_ok-count.field-0 (drop (p + 1) bs) (omega (arith, length-drop (p + 1) bs, c.in_ok-count.ensures.0, c.in_err-bytes.ensures.0)) in
+    wrong_byte _ _ refusal.TrayEndsEarly _ c.in_ok-count.field-0 (search rules) c.in_ok-count.ensures few
 
 pub returns : goal.returns
 returns c =

@@ -1,14 +1,13 @@
 use Rattle.std.proofs.Common.{◌≡◌, Err, Ok, refl, sym, ap, ◌∙◌, rules}
-use Rattle.sharing.specs.declared.refusal.Refusal.TheVariants as refusal
 use Rattle.sharing.specs.Refusals.{number, refused as refused_by}
 use Rattle.trays.specs.Layout.{at_words, at_count, words, some_words, wrong_words}
 use Rattle.trays.proofs.OneWay.{no_words}
-use Rattle.trays.proofs.Requests.{none_left, bad_byte, refused, byte_given, words_refused, words_taken}
+use Rattle.trays.proofs.Requests.{no_byte, wrong_byte, byte_given, words_refused, words_taken}
 use Rattle.trays.proofs.reader.TrayReader.read_words.Goals as goal
 
 pub returns-in_err-code : goal.returns-in_err-code
 returns-in_err-code c =
-    refused _ _ refusal.TrayEndsEarly _ (search rules) (none_left c.args.self.now.bytes.now c.args.self.now.position c.in_err-code.ensures.0 no_words)
+    no_byte _ _ _ (search rules) c.in_err-code.ensures.0 no_words
 
 pub returns-in_err-words : goal.returns-in_err-words
 returns-in_err-words c =
@@ -16,7 +15,7 @@ returns-in_err-words c =
     let why : c.new.result ≡ Err fault.refusal = search rules in
     let what : fault ≡ record { refusal = fault.refusal; offset = c.args.self.now.position } = search rules in
     let no = words_refused c.in_ok-code.code (number fault.refusal) (ap refused_by (sym why) ∙ c.new.ensures.answer) in
-    refused _ _ fault.refusal _ (search rules) (bad_byte c.args.self.now.bytes.now c.args.self.now.position c.in_ok-code.code c.in_ok-code.ensures (rw no.0 (wrong_words no.1)))
+    wrong_byte _ _ fault.refusal _ c.in_ok-code.code (search rules) c.in_ok-code.ensures (rw no.0 (wrong_words no.1))
 
 pub returns : goal.returns
 returns c =
