@@ -21,7 +21,7 @@ use Rattle.linear.proofs.Reading.{row_of, basis_of, solves_to, solves_from, eche
 use Rattle.linear.proofs.Steps.{ReducedTo, all_zero, not_zero}
 use Rattle.linear.proofs.Decisions.{Reads, every_value, one_value}
 
-pub entry_zeros : (n j : ℕ) → entry (replicate n 0) j ≡ 0
+entry_zeros : (n j : ℕ) → entry (replicate n 0) j ≡ 0
 entry_zeros zero j = refl
 entry_zeros (suc n) zero = refl
 entry_zeros (suc n) (suc j) = entry_zeros n j

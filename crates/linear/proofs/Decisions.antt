@@ -4,12 +4,15 @@
 --   decides_unique        no two decisions are right
 --   decides_order         what is right for a list is right for every list with the same equations
 --   promised              a decision that is right keeps the whole promise
---   table                 the numbers that a function gives, as a list
+--   padded                the first numbers that a function gives, as an array, and 0 past them
 --   decision              the decision that the theory works out, with the proof that it is right
 --   one_decision          of any equations and any form one decision is right, and no other
 -- Assumes nothing.
-use Rattle.std.proofs.Common.{◌≡◌, ℕ, zero, suc, ◌<◌, ◌≤◌, ◌↔◌, List, [], ◌∷◌, map, length, sym, refl, ap, ◌∙◌, subst, ⊎_elim, arith, ext_get_or}
+use Rattle.std.proofs.Common.{◌≡◌, ℕ, ◌<◌, ◌≤◌, ◌↔◌, List, [], ◌∷◌, map, length, sym, refl, ap, ◌∙◌, subst, ⊎_elim, arith, ext_get_or}
 use mathlib.Core.List.Memᴰ
+use Rattle.std.specs.List.{range_with_len}
+use Rattle.std.proofs.lemmas.List.{get_or_past}
+use Rattle.std.proofs.lemmas.List.FromFn.{length-map-range_with_len, get_or-map-range_with_len}
 use native.Mathlib.Decide.{dec_lt}
 use Rattle.fields.specs.Arithmetic.{Arithmetic, Laws}
 use Rattle.linear.specs.declared.equation.Equation.{Equation}
@@ -126,49 +129,33 @@ module _ (F : Arithmetic) (L : Laws F) (t w : ℕ) (equations : List Equation) (
     in_any_order = λ others same. decides_order F t w equations others same form d right;
   }
 
-unfoldable pub table : ℕ → (ℕ → ℕ) → List ℕ
-table zero f = []
-table (suc n) f = f 0 ∷ table n (λ k. f (suc k))
-
-length_table : (n : ℕ) (f : ℕ → ℕ) → length (table n f) ≡ n
-unfolding table
-length_table zero f = refl
-length_table (suc n) f = ap suc (length_table n (λ k. f (suc k)))
-
-table_at : (n : ℕ) (f : ℕ → ℕ) (k : ℕ) → k < n → entry (table n f) k ≡ f k
-unfolding table
-table_at zero f k l = absurd (omega arith)
-table_at (suc n) f zero l = refl
-table_at (suc n) f (suc k) l = table_at n (λ i. f (suc i)) k (omega arith)
-
-table_past : (n : ℕ) (f : ℕ → ℕ) (k : ℕ) → n ≤ k → entry (table n f) k ≡ 0
-unfolding table
-table_past zero f k l = refl
-table_past (suc n) f zero l = absurd (omega arith)
-table_past (suc n) f (suc k) l = table_past n (λ i. f (suc i)) k (omega arith)
-
 abbrev where_below : {j w : ℕ} → ℕ → Dec (j < w) → ℕ
 where_below n (yes l) = n
 where_below n (no d) = 0
 
 -- the first w of the numbers, and 0 past them
+abbrev padded_from : ℕ → (ℕ → ℕ) → ℕ → ℕ
+padded_from w v j = where_below (v j) (dec_lt j w)
+
 unfoldable pub padded : ℕ → (ℕ → ℕ) → List ℕ
-padded w v = table 16 (λ j. where_below (v j) (dec_lt j w))
+padded w v = map (padded_from w v) (range_with_len 0 16)
 
 length_padded : (w : ℕ) (v : ℕ → ℕ) → length (padded w v) ≡ 16
 unfolding padded
-length_padded w v = length_table 16 _
+length_padded w v = length-map-range_with_len (padded_from w v) 0 16
+
+padded_is : (w : ℕ) (v : ℕ → ℕ) (j : ℕ) → j < 16 → entry (padded w v) j ≡ padded_from w v j
+unfolding padded
+padded_is w v j l = get_or-map-range_with_len (padded_from w v) 0 16 j j 0 l (omega arith)
 
 padded_at : (w : ℕ) (v : ℕ → ℕ) → w ≤ 16 → (j : ℕ) → j < w → entry (padded w v) j ≡ v j
-unfolding padded
-padded_at w v h j l = table_at 16 _ j (omega arith) ∙ (elim (dec_lt j w) as (λ d. where_below (v j) d ≡ v j) [ yes m ↦ refl | no d ↦ absurd (d l) ])
+padded_at w v h j l = padded_is w v j (omega arith) ∙ (elim (dec_lt j w) as (λ d. where_below (v j) d ≡ v j) [ yes m ↦ refl | no d ↦ absurd (d l) ])
 
 padded_past : (w : ℕ) (v : ℕ → ℕ) (j : ℕ) → w ≤ j → entry (padded w v) j ≡ 0
-unfolding padded
 padded_past w v j h =
     elim (dec_lt j 16) [
-      | yes l ↦ table_at 16 _ j l ∙ (elim (dec_lt j w) as (λ d. where_below (v j) d ≡ 0) [ yes m ↦ absurd (omega arith) | no d ↦ refl ])
-      | no d ↦ table_past 16 _ j (omega arith)
+      | yes l ↦ padded_is w v j l ∙ (elim (dec_lt j w) as (λ d. where_below (v j) d ≡ 0) [ yes m ↦ absurd (omega arith) | no d ↦ refl ])
+      | no d ↦ get_or_past (padded w v) j 0 (omega (arith, length_padded w v))
     ]
 
 module _ (F : Arithmetic) (L : Laws F) (t w : ℕ) where

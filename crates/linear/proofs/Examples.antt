@@ -17,10 +17,10 @@ use Rattle.linear.proofs.Codes.{el, field_of}
 use Rattle.linear.proofs.Substitution.{unit}
 use Rattle.linear.proofs.Knowledge.{reduce, first, put, insert, run}
 use Rattle.linear.proofs.Verdicts.{verdict}
-use Rattle.linear.proofs.Decisions.{table, padded, decision}
+use Rattle.linear.proofs.Decisions.{padded, decision}
 
 unfoldable pub found : List Equation → Form → Decision
-unfolding decision verdict run insert put first reduce unit el field_of table padded wide_lawful laws_modulo ℕ_discrete dec_lt
+unfolding decision verdict run insert put first reduce unit el field_of padded wide_lawful laws_modulo ℕ_discrete dec_lt
 found equations form = (decision wide wide_lawful 3 1 (omega arith) equations form).0
 
 found_right : (equations : List Equation) (form : Form) (d : Decision) → found equations form ≡ d → Decides wide 3 1 equations form d

@@ -10,9 +10,9 @@
 --   echelon_stored, joined_stored    a row that is stored leaves rows in echelon form, which stand for the equation too
 --   joined_redundant, clashes, leaves    what an insertion leaves where nothing is left of the row
 -- Assumes nothing.
-use Rattle.std.proofs.Common.{◌≡◌, ℕ, ◌+◌, ◌%◌, ◌<◌, ◌≤◌, true, false, ◌≢◌, ◌↔◌, List, length, get_or, set, Some, None, Option, Ok, Err, Result, sym, ap, ◌∙◌, subst, mod-lt, arith, get_or-set_other, get_or-set_same}
+use Rattle.std.proofs.Common.{◌≡◌, ℕ, ◌+◌, ◌%◌, ◌<◌, ◌≤◌, true, false, ◌≢◌, ◌↔◌, List, length, get_or, set, take, Some, None, Option, Ok, Err, Result, sym, ap, ◌∙◌, subst, mod-lt, arith, get_or-set_other, get_or-set_same}
 use native.Mathlib.Decide.{dec_lt, ℕ_discrete}
-use Rattle.std.proofs.lemmas.List.{get_or_default}
+use Rattle.std.proofs.lemmas.List.{get_or_read, get_or-take, length-take}
 use Rattle.fields.specs.Arithmetic.{Arithmetic, Laws}
 use Rattle.linear.specs.declared.equation.Equation.{Equation}
 use Rattle.linear.specs.declared.system.Contradiction.{Contradiction}
@@ -102,41 +102,46 @@ module _ (F : Arithmetic) (L : Laws F) where
       λ s. solves_from F L t w after x ((same (read F L x)).1 (solves_to F L t w rows x s.0, satisfies_to F L t w e x s.1)),
     )
 
-    -- what stands at a column of the rows is what was read there, at whatever default
-    slot : (p : ℕ) → p < length rows → (d o : Option Equation) → get_or rows p d ≡ o → basis_of F L rows p ≡ slot_of F L o
-    slot p within d o is = ap (slot_of F L) (get_or_default rows p None d within ∙ is)
+    -- what stands at a column of the rows is what was read there
+    slot : (n p : ℕ) → p < length (take n rows) → (read : Option Equation) → read ≡ get_or (take n rows) p read → basis_of F L rows p ≡ slot_of F L read
+    slot n p inside read is =
+        let below : p < n = omega (arith, length-take n rows) in
+        ap (slot_of F L) (sym (get_or-take n rows p None below) ∙ sym (get_or_read (take n rows) p read inside is None))
 
-    pub reduced_passed : (row : Equation) (p : ℕ) → p < length rows → (d : Option Equation) → get_or rows p d ≡ None → ReducedTo p row → ReducedTo (p + 1) row
-    reduced_passed row p within d is h = reduced_skip (field_of F L) t w _ p (p + 1) (omega arith) (slot p within d None is) h
+    pub reduced_passed : (row : Equation) (n p : ℕ) → p < length (take n rows) → (read : Option Equation) → read ≡ get_or (take n rows) p read → read ≡ None → ReducedTo p row → ReducedTo (p + 1) row
+    reduced_passed row n p inside read is free h = reduced_skip (field_of F L) t w _ p (p + 1) (omega arith) (slot n p inside read is ∙ ap (slot_of F L) free) h
 
     pub trimmed_passed : (row : Equation) (p : ℕ) → F.inv (entry row.coefficients p) ≡ None → TrimmedTo p row → TrimmedTo (p + 1) row
     trimmed_passed row p none h = trimmed_skip (field_of F L) t w _ p (p + 1) (omega arith) (no_inverse _ none) h
 
     module _ (ech : InEchelonForm F t rows) (row : Equation) (p : ℕ) where
-      module _ (l : p < t) (within : p < length rows) (d : Option Equation) where
-        module _ (pivot after : Equation) (is : get_or rows p d ≡ Some pivot) (c : Cleared F t w p pivot row after) where
+      module _ (n : ℕ) (is_t : n ≡ t) (inside : p < length (take n rows)) (read : Option Equation) (is : read ≡ get_or (take n rows) p read) where
+        before_t : p < t
+        before_t = omega (arith, length-take n rows)
+
+        module _ (pivot after : Equation) (found : read ≡ Some pivot) (c : Cleared F t w p pivot row after) where
           here : basis_of F L rows p ≡ Some (row_of F L pivot)
-          here = slot p within d (Some pivot) is
+          here = slot n p inside read is ∙ ap (slot_of F L) found
 
           lead : theory.Leads (field_of F L) p (Some (row_of F L pivot))
-          lead = subst (theory.Leads (field_of F L) p) here (echelon_to F L t w rows ech p l)
+          lead = subst (theory.Leads (field_of F L) p) here (echelon_to F L t w rows ech p before_t)
 
           pub trimmed_cleared : TrimmedTo p row → TrimmedTo (p + 1) after
-          trimmed_cleared h = trimmed_step (field_of F L) t w _ p (p + 1) (omega arith) l lead here (cleared t w p row after pivot lead c) h
+          trimmed_cleared h = trimmed_step (field_of F L) t w _ p (p + 1) (omega arith) before_t lead here (cleared t w p row after pivot lead c) h
 
           pub reduced_cleared : ReducedTo p row → ReducedTo (p + 1) after
-          reduced_cleared h = reduced_step (field_of F L) t w _ p (p + 1) (omega arith) l lead here (cleared t w p row after pivot lead c) h
+          reduced_cleared h = reduced_step (field_of F L) t w _ p (p + 1) (omega arith) before_t lead here (cleared t w p row after pivot lead c) h
 
-        module _ (free : get_or rows p d ≡ None) (v : ℕ) (inv : F.inv (entry row.coefficients p) ≡ Some v) (after : Equation) (s : Scaled F t w p v row after) (h : TrimmedTo p row) where
+        module _ (free : read ≡ None) (v : ℕ) (inv : F.inv (entry row.coefficients p) ≡ Some v) (after : Equation) (s : Scaled F t w p v row after) (h : TrimmedTo p row) where
           put : Put (field_of F L) t w (basis_of F L rows) p (row_of F L after) (basis_of F L (set rows p (Some after)))
           put = record {
-            here = ap (slot_of F L) (get_or-set_same rows p (Some after) None within);
-            elsewhere = λ q m n. ap (slot_of F L) (get_or-set_other rows p q (Some after) None n);
+            here = ap (slot_of F L) (get_or-set_same rows p (Some after) None (omega (arith, length-take n rows)));
+            elsewhere = λ q m d. ap (slot_of F L) (get_or-set_other rows p q (Some after) None d);
           }
 
           filled : theory.Echelon (field_of F L) t w (basis_of F L (set rows p (Some after)))
               × ((y : theory.Assignment (Code F)) → theory.Solves (field_of F L) t w (basis_of F L (set rows p (Some after))) y ↔ (theory.Solves (field_of F L) t w (basis_of F L rows) y × theory.Satisfies (field_of F L) t w (row_of F L e) y))
-          filled = stored (field_of F L) t w (basis_of F L rows) (row_of F L e) (row_of F L row) p (el F L v) l (echelon_to F L t w rows ech) h.agree (slot p within d None free) h.low (inverse_read _ v inv) (scaled t w p row after v h.low s) put
+          filled = stored (field_of F L) t w (basis_of F L rows) (row_of F L e) (row_of F L row) p (el F L v) before_t (echelon_to F L t w rows ech) h.agree (slot n p inside read is ∙ ap (slot_of F L) free) h.low (inverse_read _ v inv) (scaled t w p row after v h.low s) put
 
           pub echelon_stored : InEchelonForm F t (set rows p (Some after))
           echelon_stored = echelon_from F L t w _ filled.0

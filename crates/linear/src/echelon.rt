@@ -35,9 +35,9 @@ impl<'a, F: Field> Echelon<'a, F> {
     {
         let system = self.system;
         let mut row = *equation;
-        for column in 0..system.unknowns() {
-            if let Some(pivot) = self.rows[column] {
-                system.clear(&mut row, &pivot, column);
+        for (column, slot) in self.rows[..system.unknowns()].iter().enumerate() {
+            if let Some(pivot) = slot {
+                system.clear(&mut row, pivot, column);
             } else if let Some(inverse) = system.field.inverse(row.coefficients[column]) {
                 system.scale(&mut row, inverse, column);
                 self.rows[column] = Some(row);
@@ -66,9 +66,9 @@ impl<'a, F: Field> Echelon<'a, F> {
     {
         let system = self.system;
         let mut row = form.homogeneous();
-        for column in 0..system.unknowns() {
-            if let Some(pivot) = self.rows[column] {
-                system.clear(&mut row, &pivot, column);
+        for (column, slot) in self.rows[..system.unknowns()].iter().enumerate() {
+            if let Some(pivot) = slot {
+                system.clear(&mut row, pivot, column);
             }
         }
         system.reading(&row)

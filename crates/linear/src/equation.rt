@@ -2,6 +2,7 @@
 // field's size; the places past the shape are not looked at.
 ghost use Rattle.std.specs.Prelude.{◌≡◌, length, replicate};
 
+// How many unknowns and right sides there is room for.
 pub const MOST_UNKNOWNS: usize = 32;
 
 pub const MOST_RIGHT_SIDES: usize = 16;

@@ -42,6 +42,7 @@ impl<'a, F: Field> System<'a, F> {
             factor,
             &pivot.coefficients[column..],
         );
+        // From 0: the check has no rule for an open range in a field behind a reference.
         self.add_multiple(
             &mut row.right_sides[0..self.right_sides()],
             factor,
