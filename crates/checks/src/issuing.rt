@@ -26,34 +26,9 @@ const THIRTY_TWO_BYTES: [u32; 32] = [
     123, 140, 157, 174, 191, 208, 225, 242, 3, 20,
 ];
 
-// The refusal of an issue, or none.
-fn refusal(res: Result<(), Refusal>) -> u8 {
-    match res {
-        Ok(()) => 0,
-        Err(refusal) => refusal.number(),
-    }
-}
-
-// The number by which thresholds are refused, or 0.
-fn policy_refusal(thresholds: &[u8]) -> u8 {
-    match Policy::new(thresholds) {
-        Ok(_) => 0,
-        Err(refusal) => refusal.number(),
-    }
-}
-
-fn words_refusal(words: u8) -> u8 {
-    match WordCount::new(words) {
-        Ok(_) => 0,
-        Err(refusal) => refusal.number(),
-    }
-}
-
-// As many numbers as both have.
-fn copy(from: &[u32], to: &mut [u32]) {
-    for (source, target) in from.iter().zip(to.iter_mut()) {
-        *target = *source;
-    }
+// The number of the refusal, or 0.
+fn refusal<T: Drop>(res: Result<T, Refusal>) -> u8 {
+    res.map_or_else(|refusal| refusal.number(), |_| 0)
 }
 
 // Deals from copies of these coefficients, and asks for one card.
@@ -67,7 +42,9 @@ fn issue<F: Field>(
     values: &mut [u32],
 ) -> Result<(), Refusal> {
     let mut copies = [0; 64];
-    copy(coefficients, &mut copies);
+    for (copy, coefficient) in copies.iter_mut().zip(coefficients) {
+        *copy = *coefficient;
+    }
     let count = coefficients.len().min(64);
     let opened = OpenedDealing::new(Policy::new(thresholds)?, WordCount::new(words)?);
     let loaded = opened.load(&mut copies[0..count]);
@@ -85,10 +62,8 @@ fn value<F: Field>(
     id: u32,
 ) -> Option<u32> {
     let mut values = [0];
-    match issue(field, thresholds, 1, coefficients, level, id, &mut values) {
-        Ok(()) => Some(values[0]),
-        Err(_) => None,
-    }
+    issue(field, thresholds, 1, coefficients, level, id, &mut values).ok()?;
+    Some(values[0])
 }
 
 // A card of two words.
@@ -136,19 +111,19 @@ fn byte_cards(rt: HostRuntime) {
 
 #[test]
 fn thresholds_and_word_counts(rt: HostRuntime) {
-    assert_eq!(rt; policy_refusal(&[]), 3);
-    assert_eq!(rt; policy_refusal(&[1, 2, 3, 4, 5, 6, 7, 8, 9]), 3);
-    assert_eq!(rt; policy_refusal(&[1, 2, 3, 4, 5, 6, 7, 8]), 0);
-    assert_eq!(rt; policy_refusal(&[2, 2]), 4);
-    assert_eq!(rt; policy_refusal(&[3, 2]), 4);
-    assert_eq!(rt; policy_refusal(&[0, 2]), 4);
-    assert_eq!(rt; policy_refusal(&[32]), 0);
-    assert_eq!(rt; policy_refusal(&[33]), 4);
-    assert_eq!(rt; policy_refusal(&[0, 0, 0, 0, 0, 0, 0, 0, 0]), 3);
-    assert_eq!(rt; words_refusal(0), 5);
-    assert_eq!(rt; words_refusal(1), 0);
-    assert_eq!(rt; words_refusal(16), 0);
-    assert_eq!(rt; words_refusal(17), 5);
+    assert_eq!(rt; refusal(Policy::new(&[])), 3);
+    assert_eq!(rt; refusal(Policy::new(&[1, 2, 3, 4, 5, 6, 7, 8, 9])), 3);
+    assert_eq!(rt; refusal(Policy::new(&[1, 2, 3, 4, 5, 6, 7, 8])), 0);
+    assert_eq!(rt; refusal(Policy::new(&[2, 2])), 4);
+    assert_eq!(rt; refusal(Policy::new(&[3, 2])), 4);
+    assert_eq!(rt; refusal(Policy::new(&[0, 2])), 4);
+    assert_eq!(rt; refusal(Policy::new(&[32])), 0);
+    assert_eq!(rt; refusal(Policy::new(&[33])), 4);
+    assert_eq!(rt; refusal(Policy::new(&[0, 0, 0, 0, 0, 0, 0, 0, 0])), 3);
+    assert_eq!(rt; refusal(WordCount::new(0)), 5);
+    assert_eq!(rt; refusal(WordCount::new(1)), 0);
+    assert_eq!(rt; refusal(WordCount::new(16)), 0);
+    assert_eq!(rt; refusal(WordCount::new(17)), 5);
 }
 
 // The first refusal wins where several hold, and a refused issue leaves the buffer as it was.

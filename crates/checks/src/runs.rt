@@ -1,5 +1,5 @@
 // What whole trays report.
-use reports::report::Conclusion;
+use reports::report::Judged;
 use reports::run::run_tray;
 use reports::text::report_text;
 use std::alloc::Global;
@@ -24,8 +24,8 @@ fn reports(rt: &impl Abort, heap: Global, tray: &[u8], text: &str) -> Result<(),
 fn stop_of(tray: &[u8]) -> (u8, usize) {
     let report = run_tray(tray);
     match report.conclusion {
-        Conclusion::Stopped(stop) => (stop.refusal.number(), stop.offset),
-        Conclusion::Judged { .. } => (0, 0),
+        Ok(_) => (0, 0),
+        Err(stop) => (stop.refusal.number(), stop.offset),
     }
 }
 
@@ -154,7 +154,7 @@ fn the_longest_tray(rt: HostRuntime) -> Result<(), Fail> {
     fill(&mut bytes);
     assert!(rt; bytes.len() == MORE);
     let report = run_tray(&bytes[0..LONGEST]);
-    let Conclusion::Judged { held, turned, .. } = report.conclusion else {
+    let Ok(Judged { held, turned, .. }) = report.conclusion else {
         return Err(Fail::new("judged"));
     };
     assert_eq!(rt; held, 64);

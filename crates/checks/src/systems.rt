@@ -8,10 +8,8 @@ use std::test::Fail;
 
 // a x + b y + c z = s
 fn equation(a: u32, b: u32, c: u32, s: u32) -> Equation {
-    let mut coefficients = [0; 32];
-    coefficients[0] = a;
-    coefficients[1] = b;
-    coefficients[2] = c;
+    let left = form(a, b, c);
+    let coefficients = left.coefficients;
     let mut right_sides = [0; 16];
     right_sides[0] = s;
     Equation {
@@ -21,30 +19,23 @@ fn equation(a: u32, b: u32, c: u32, s: u32) -> Equation {
 }
 
 fn form(a: u32, b: u32, c: u32) -> Form {
-    let mut coefficients = [0; 32];
-    coefficients[0] = a;
-    coefficients[1] = b;
-    coefficients[2] = c;
-    Form { coefficients }
+    let mut form = Form::default();
+    form.coefficients[0] = a;
+    form.coefficients[1] = b;
+    form.coefficients[2] = c;
+    form
 }
 
-// The value that is forced, or what stands in its place.
-#[derive(Clone, Copy, PartialEq, Eq, Debug)]
-enum Told {
-    Nothing,
-    Contradiction,
-    Value(u32),
+fn asked_of(equations: &[Equation], form: &Form) -> Option<Decision> {
+    let shape = Shape::new(3, 1)?;
+    Some(decide(&WIDE_FIELD, shape, equations, form))
 }
 
-fn asked_of(equations: &[Equation], form: &Form) -> Option<Told> {
-    let Some(shape) = Shape::new(3, 1) else {
-        return None;
-    };
-    match decide(&WIDE_FIELD, shape, equations, form) {
-        Decision::Contradictory => Some(Told::Contradiction),
-        Decision::Open => Some(Told::Nothing),
-        Decision::Decided(values) => Some(Told::Value(values[0])),
-    }
+// The value that is forced, and zeros after it.
+fn value(v: u32) -> Option<Decision> {
+    let mut values = [0; 16];
+    values[0] = v;
+    Some(Decision::Decided(values))
 }
 
 #[test]
@@ -53,22 +44,19 @@ fn three_unknowns(rt: HostRuntime) {
     let doubled = equation(2, 4, 6, 12);
     assert_eq!(rt;
         asked_of(&[first, doubled], &form(0, 0, 1)),
-        Some(Told::Nothing)
+        Some(Decision::Open)
     );
-    assert_eq!(rt;
-        asked_of(&[first, doubled], &form(3, 6, 9)),
-        Some(Told::Value(18))
-    );
+    assert_eq!(rt; asked_of(&[first, doubled], &form(3, 6, 9)), value(18));
     assert_eq!(rt;
         asked_of(&[first, equation(2, 4, 6, 13)], &form(0, 0, 1)),
-        Some(Told::Contradiction)
+        Some(Decision::Contradictory)
     );
-    assert_eq!(rt; asked_of(&[], &form(0, 0, 0)), Some(Told::Value(0)));
-    assert_eq!(rt; asked_of(&[], &form(0, 1, 0)), Some(Told::Nothing));
+    assert_eq!(rt; asked_of(&[], &form(0, 0, 0)), value(0));
+    assert_eq!(rt; asked_of(&[], &form(0, 1, 0)), Some(Decision::Open));
     // numbers above the size are read as their remainders
     assert_eq!(rt;
         asked_of(&[equation(65538, 65539, 3, 65543)], &form(1, 2, 65540)),
-        Some(Told::Value(6))
+        value(6)
     );
 }
 
@@ -78,13 +66,13 @@ fn the_order_of_equations_does_not_matter(rt: HostRuntime) {
     let b = equation(1, 2, 3, 14);
     let c = equation(1, 4, 9, 36);
     let wanted = form(1, 10, 100);
-    assert_eq!(rt; asked_of(&[a, b, c], &wanted), Some(Told::Value(321)));
-    assert_eq!(rt; asked_of(&[c, b, a], &wanted), Some(Told::Value(321)));
-    assert_eq!(rt; asked_of(&[b, a, c, a, b], &wanted), Some(Told::Value(321)));
-    assert_eq!(rt; asked_of(&[a, c], &wanted), Some(Told::Nothing));
+    assert_eq!(rt; asked_of(&[a, b, c], &wanted), value(321));
+    assert_eq!(rt; asked_of(&[c, b, a], &wanted), value(321));
+    assert_eq!(rt; asked_of(&[b, a, c, a, b], &wanted), value(321));
+    assert_eq!(rt; asked_of(&[a, c], &wanted), Some(Decision::Open));
     assert_eq!(rt;
         asked_of(&[c, a, b, equation(0, 0, 1, 4)], &wanted),
-        Some(Told::Contradiction)
+        Some(Decision::Contradictory)
     );
 }
 

@@ -102,14 +102,14 @@ fn a_session_in_the_byte_field(rt: HostRuntime) -> Result<(), Fail> {
         Request::TurnedAway,
         Request::Held,
     ];
-    let mut replies = [Reply::Open; 6];
+    let mut replies = [Ok(Reply::Number(77)); 6];
     run_session(ByteField, policy, words, &requests, &mut replies);
-    assert_eq!(rt; replies[0], Reply::Done);
-    assert_eq!(rt; replies[1], Reply::Refused(Refusal::IdAlreadyHeld));
-    assert_eq!(rt; replies[2], Reply::Truth(true));
-    assert_eq!(rt; replies[3], Reply::Done);
-    assert_eq!(rt; replies[4], Reply::Number(0));
-    assert_eq!(rt; replies[5], Reply::Number(1));
+    assert_eq!(rt; replies[0], Ok(Reply::Done));
+    assert_eq!(rt; replies[1], Err(Refusal::IdAlreadyHeld));
+    assert_eq!(rt; replies[2], Ok(Reply::Truth(true)));
+    assert_eq!(rt; replies[3], Ok(Reply::Done));
+    assert_eq!(rt; replies[4], Ok(Reply::Number(0)));
+    assert_eq!(rt; replies[5], Ok(Reply::Number(1)));
     Ok(())
 }
 
@@ -131,7 +131,7 @@ fn judged<F: Field + Drop>(
     field: F,
     thresholds: &[u8],
     cards: &[TestCard],
-) -> Result<(bool, Judgement, u32), Refusal> {
+) -> Result<(bool, Judgement<()>, u32), Refusal> {
     let mut pool = Pool::new(field, Policy::new(thresholds)?, WordCount::new(1)?);
     for card in cards {
         pool.present(card.level, card.id, &[card.value])?;
@@ -146,7 +146,7 @@ fn verdicts_of_the_wide_field(rt: HostRuntime) -> Result<(), Fail> {
     let policy = &[2, 3];
     assert_eq!(rt;
         judged(WIDE_FIELD, policy, &[card(0, 1, 14), card(0, 2, 24)])?,
-        (true, Judgement::Key, 5)
+        (true, Judgement::Key(()), 5)
     );
     assert_eq!(rt;
         judged(
@@ -154,7 +154,7 @@ fn verdicts_of_the_wide_field(rt: HostRuntime) -> Result<(), Fail> {
             policy,
             &[card(0, 1, 14), card(1, 3, 64), card(1, 5, 152)],
         )?,
-        (true, Judgement::Key, 5)
+        (true, Judgement::Key(()), 5)
     );
     assert_eq!(rt;
         judged(
@@ -182,7 +182,7 @@ fn verdicts_of_the_wide_field(rt: HostRuntime) -> Result<(), Fail> {
     );
     assert_eq!(rt;
         judged(WIDE_FIELD, &[1], &[card(0, 1, 9)])?,
-        (true, Judgement::Key, 9)
+        (true, Judgement::Key(()), 9)
     );
     assert_eq!(rt;
         judged(
@@ -190,7 +190,7 @@ fn verdicts_of_the_wide_field(rt: HostRuntime) -> Result<(), Fail> {
             &[3, 4],
             &[card(1, 3, 118), card(1, 5, 402), card(0, 4, 140)],
         )?,
-        (false, Judgement::Key, 2)
+        (false, Judgement::Key(()), 2)
     );
     Ok(())
 }
@@ -199,11 +199,11 @@ fn verdicts_of_the_wide_field(rt: HostRuntime) -> Result<(), Fail> {
 fn verdicts_of_the_byte_field(rt: HostRuntime) -> Result<(), Fail> {
     assert_eq!(rt;
         judged(ByteField, &[2], &[card(0, 1, 2), card(0, 2, 7)])?,
-        (true, Judgement::Key, 3)
+        (true, Judgement::Key(()), 3)
     );
     assert_eq!(rt;
         judged(ByteField, &[3, 4], &[card(0, 3, 22), card(0, 4, 104)])?,
-        (false, Judgement::Key, 6)
+        (false, Judgement::Key(()), 6)
     );
     assert_eq!(rt;
         judged(ByteField, &[1, 3], &[card(0, 1, 0)])?,
@@ -224,28 +224,45 @@ fn the_order_of_cards_does_not_matter(rt: HostRuntime) -> Result<(), Fail> {
     let d = card(1, 6, 211);
     assert_eq!(rt;
         judged(WIDE_FIELD, &[2, 3], &[a, c, b])?,
-        (true, Judgement::Key, 5)
+        (true, Judgement::Key(()), 5)
     );
     assert_eq!(rt;
         judged(WIDE_FIELD, &[2, 3], &[b, a, c])?,
-        (true, Judgement::Key, 5)
+        (true, Judgement::Key(()), 5)
     );
     assert_eq!(rt;
         judged(WIDE_FIELD, &[2, 3], &[b, c, a])?,
-        (true, Judgement::Key, 5)
+        (true, Judgement::Key(()), 5)
     );
     assert_eq!(rt;
         judged(WIDE_FIELD, &[2, 3], &[c, a, b])?,
-        (true, Judgement::Key, 5)
+        (true, Judgement::Key(()), 5)
     );
     assert_eq!(rt;
         judged(WIDE_FIELD, &[2, 3], &[c, b, a])?,
-        (true, Judgement::Key, 5)
+        (true, Judgement::Key(()), 5)
     );
     assert_eq!(rt;
         judged(WIDE_FIELD, &[2, 3], &[d, b, a, c])?,
-        (true, Judgement::Key, 5)
+        (true, Judgement::Key(()), 5)
     );
+    Ok(())
+}
+
+// The same without a buffer, and what a session replies.
+#[test]
+fn a_verdict_holds_the_key(rt: HostRuntime) -> Result<(), Fail> {
+    let mut pool = empty(&[2, 3])?;
+    assert!(rt; pool.verdict() == Judgement::Open);
+    assert_eq!(rt; pool.words().get(), 2);
+    pool.present(0, 1, &[14, 8])?;
+    pool.present(0, 2, &[24, 14])?;
+    let Judgement::Key(key) = pool.verdict() else {
+        return Err(Fail::new("a key"));
+    };
+    assert!(rt; key.as_slice() == [5, 3].as_slice());
+    pool.present(0, 3, &[0, 0])?;
+    assert!(rt; pool.verdict() == Judgement::Contradictory);
     Ok(())
 }
 
