@@ -85,6 +85,7 @@ pub fn run_session<F: Field + Drop>(
     ensures rest { drop (min (length requests.now) (length replies.old)) replies.new ≡ drop (min (length requests.now) (length replies.old)) replies.old }
 {
     let mut pool = Pool::new(field, policy, words);
+    // Tried, and the proof did not close: `requests.iter().zip(replies.iter_mut())`, whose writes the check knows nothing of.
     for i in 0..requests.len().min(replies.len()) {
         replies[i] = one(&mut pool, requests[i]);
     }

@@ -40,6 +40,7 @@ impl Derivative {
         let field = factors.field;
         let mut sum = 0;
         let mut power = 1;
+        // No plainer over the coefficients: the place is a number in the sum too.
         for i in self.order..self.top {
             let term = field.multiply(factors.falling(i, self.order), coefficients[i]);
             sum = field.add(sum, field.multiply(term, power));
@@ -54,9 +55,9 @@ impl Derivative {
         ensures { values.new ≡ row (length values.old) (λ j. derivative (F.Field.arithmetic field.now) self.now.top self.now.order self.now.id (λ i. slice_index coefficients.now (j * self.now.top + i))) }
     {
         let factors = Factors::of(field);
-        for j in 0..values.len() {
+        for (j, value) in values.iter_mut().enumerate() {
             let start = j * self.top;
-            values[j] = self.of_word(&factors, &coefficients[start..start + self.top]);
+            *value = self.of_word(&factors, &coefficients[start..start + self.top]);
         }
     }
 
@@ -68,6 +69,7 @@ impl Derivative {
         let factors = Factors::of(field);
         let mut multipliers = [0; MOST_COEFFICIENTS];
         let mut power = 1;
+        // No plainer over a part of the multipliers: the place is a number in each of them too.
         for i in self.order..self.top {
             multipliers[i] = field.multiply(factors.falling(i, self.order), power);
             power = field.multiply(power, self.id);

@@ -35,6 +35,7 @@ impl<'a, F: Field> Factors<'a, F> {
         ensures { result ≡ falling (F.Field.arithmetic self.now.field.now) i order }
     {
         let mut product = 1;
+        // No plainer over the elements from i − order + 1 to i, backwards.
         for k in 0..order {
             product = self.field.multiply(product, self.elements[i - k]);
         }
