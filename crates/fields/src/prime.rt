@@ -1,21 +1,20 @@
 // The prime fields: arithmetic modulo a prime number, one family for every prime up to 65,537.
 ghost use Rattle.std.specs.Prelude.{◌≡◌, ℕ, ◌≤◌};
 ghost use Rattle.fields.specs.Modulo.{Prime, modulo};
-ghost use Rattle.std.proofs.Common.{arith, rules};
+ghost use Rattle.std.proofs.Common.{arith, lit≤};
 ghost use Rattle.fields.specs.ModuloLemmas.{laws_modulo, wide_prime};
 
 use crate::Field;
 
 // A prime number as a type, so that the compiler divides by a constant.
 pub trait Modulus {
-    ghost modulus: { ℕ };
+    ghost MODULUS: { ℕ };
 
-    fn modulus() -> u32
-        ensures { result ≡ modulus };
+    const MODULUS: u32;
 
-    ghost prime: { Prime modulus };
+    ghost prime: { Prime MODULUS };
 
-    ghost range: { modulus ≤ 65537 };
+    ghost range: { MODULUS ≤ 65537 };
 }
 
 // The field of the numbers below a prime modulus.
@@ -25,30 +24,30 @@ pub struct PrimeField<M> {
 }
 
 impl<M: Modulus> Field for PrimeField<M> {
-    ghost arithmetic = { λ _. modulo M.Modulus.modulus };
+    ghost arithmetic = { λ _. modulo M.Modulus.MODULUS };
 
     ghost lawful = { λ f.
         let small = M.Modulus.range in
-        laws_modulo M.Modulus.modulus M.Modulus.prime (omega arith) };
+        laws_modulo M.Modulus.MODULUS M.Modulus.prime (omega arith) };
 
     fn size(&self) -> u32 {
-        M::modulus()
+        M::MODULUS
     }
 
     fn add(&self, a: u32, b: u32) -> u32 {
-        ((a as u64 + b as u64) % M::modulus() as u64) as u32
+        ((a as u64 + b as u64) % M::MODULUS as u64) as u32
     }
 
     fn negate(&self, a: u32) -> u32 {
-        (M::modulus() - a % M::modulus()) % M::modulus()
+        (M::MODULUS - a % M::MODULUS) % M::MODULUS
     }
 
     fn multiply(&self, a: u32, b: u32) -> u32 {
-        ((a as u64 * b as u64) % M::modulus() as u64) as u32
+        ((a as u64 * b as u64) % M::MODULUS as u64) as u32
     }
 
     fn inverse(&self, a: u32) -> Option<u32> {
-        euclid(a, M::modulus())
+        euclid(a, M::MODULUS)
     }
 }
 
@@ -79,18 +78,14 @@ fn euclid(a: u32, m: u32) -> Option<u32>
 #[derive(Clone, Copy, Drop)]
 pub struct WideModulus;
 
-const WIDE: u32 = 65537;
-
 impl Modulus for WideModulus {
-    ghost modulus = { 65537 };
+    ghost MODULUS = { 65537 };
+
+    const MODULUS: u32 = 65537;
 
     ghost prime = { wide_prime };
 
-    ghost range = { Prim.search rules };
-
-    fn modulus() -> u32 {
-        WIDE
-    }
+    ghost range = { lit≤ tt };
 }
 
 // The wide field: the numbers below 65,537.
