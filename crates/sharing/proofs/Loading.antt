@@ -1,15 +1,11 @@
 -- Coefficients that fit.
---   as_many    the test of a length that is w × t
 --   fit        coefficients that no condition refuses: there are w × t of them, each an element
 -- Assumes nothing.
-use Rattle.std.proofs.Common.{◌≡◌, ℕ, ◌*◌, Bool, true, false, cond, not, eqb, leb, List, length, Some, None, Option, refl, ap, ◌∙◌, ap₂, arith, eq-eqb}
+use Rattle.std.proofs.Common.{◌≡◌, ℕ, ◌*◌, Bool, true, false, cond, not, eqb, leb, List, length, Some, None, Option, refl, arith}
 use Rattle.std.specs.List.{list_any}
 use Rattle.fields.specs.Arithmetic.{Arithmetic}
 use Rattle.sharing.specs.Cards.{top}
 use Rattle.sharing.specs.Refusals.{refuses_loading}
-
-pub as_many : (n a b w t : ℕ) → a ≡ w → b ≡ t → n ≡ a * b → not (eqb n (w * t)) ≡ false
-as_many n a b w t e f h = ap not (eq-eqb n (w * t) (h ∙ ap₂ (λ (x y : ℕ). x * y) e f))
 
 pub record Fit (F : Arithmetic) (n : ℕ) (x : List ℕ) : Type 0 where
   pub long : not (eqb (length x) n) ≡ false

@@ -1,22 +1,16 @@
 -- One step of each sum and product, as a loop takes it.
---   whole_more, power_more, falling_more    from n to n + 1
+--   power_more                              from n to n + 1
 --   term, term_more, term_at                a term of a derivative, the sum with one term more, and the term at a place
 --   derivative_same                         a derivative reads the coefficients below its number of them alone
 -- Assumes nothing.
 use Rattle.std.proofs.Common.{◌≡◌, ℕ, zero, suc, ◌+◌, ◌-◌, ◌<◌, ◌≤◌, refl, ap, ap₂, add-one, arith}
 use Rattle.fields.specs.Arithmetic.{Arithmetic}
 use Rattle.fields.specs.Sums.{sum}
-use Rattle.sharing.specs.Cards.{whole, power, falling, derivative}
+use Rattle.sharing.specs.Cards.{power, falling, derivative}
 
 module _ (F : Arithmetic) where
-  pub whole_more : (n : ℕ) → whole F (n + 1) ≡ F.add (whole F n) 1
-  whole_more n = ap (whole F) (add-one n)
-
   pub power_more : (u n : ℕ) → power F u (n + 1) ≡ F.mul (power F u n) u
   power_more u n = ap (power F u) (add-one n)
-
-  pub falling_more : (i k : ℕ) → falling F i (k + 1) ≡ F.mul (falling F i k) (whole F (i - k))
-  falling_more i k = ap (falling F i) (add-one k)
 
   -- what the coefficient d + k adds to the derivative of order d at u
   abbrev pub term : ℕ → ℕ → (ℕ → ℕ) → ℕ → ℕ
