@@ -20,9 +20,7 @@ fn has_card(
         return Err(Fail::new("no card"));
     };
     assert_eq!(rt; offset, place);
-    let Some(card) = card_of(bytes, 1) else {
-        return Err(Fail::new("not as long as a card"));
-    };
+    let card = card_of(bytes, 1).ok_or("not as long as a card")?;
     assert_eq!(rt; card.level, level);
     assert_eq!(rt; card.id, id);
     let values = card.values;
@@ -100,9 +98,7 @@ fn cards_have_their_length(rt: HostRuntime) -> Result<(), Fail> {
     let card = [7, 1, 2, 3, 4, 5, 6, 7, 255, 9, 0, 0, 0];
     assert!(rt; card_of(&card, 1).is_none());
     assert!(rt; card_of(&card[..5], 0).is_none());
-    let Some(read) = card_of(&card, 2) else {
-        return Err(Fail::new("no card"));
-    };
+    let read = card_of(&card, 2).ok_or("no card")?;
     assert_eq!(rt; read.level, 7);
     assert_eq!(rt; read.id, 0x0403_0201);
     let values = read.values;

@@ -120,21 +120,17 @@ fn fill_equations(equations: &mut [Equation]) {
 fn the_largest_shape(rt: HostRuntime) -> Result<(), Fail> {
     let mut equations = [large(0, false); 64];
     fill_equations(&mut equations);
-    let Some(shape) = Shape::new(32, 16) else {
-        return Err(Fail::new("the largest shape"));
+    let shape = Shape::new(32, 16).ok_or("the largest shape")?;
+    let mut asked = Form::default();
+    asked.coefficients[31] = 1;
+    asked.coefficients[0] = 2;
+    let Decision::Decided(values) = decide(&WIDE_FIELD, shape, &equations, &asked) else {
+        return Err(Fail::new("decided"));
     };
-    let mut coefficients = [0; 32];
-    coefficients[31] = 1;
-    coefficients[0] = 2;
-    match decide(&WIDE_FIELD, shape, &equations, &Form { coefficients }) {
-        Decision::Decided(values) => {
-            assert_eq!(rt; values[0], 31);
-            assert_eq!(rt; values[1], 34);
-            assert_eq!(rt; values[15], 76);
-            Ok(())
-        }
-        _ => Err(Fail::new("decided")),
-    }
+    assert_eq!(rt; values[0], 31);
+    assert_eq!(rt; values[1], 34);
+    assert_eq!(rt; values[15], 76);
+    Ok(())
 }
 
 #[test]

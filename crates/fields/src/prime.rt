@@ -24,11 +24,11 @@ pub struct PrimeField<M> {
 }
 
 impl<M: Modulus> Field for PrimeField<M> {
-    ghost arithmetic = { λ _. modulo M.Modulus.MODULUS };
+    ghost arithmetic = { λ _. modulo M.MODULUS };
 
     ghost lawful = { λ f.
-        let small = M.Modulus.range in
-        laws_modulo M.Modulus.MODULUS M.Modulus.prime (omega arith) };
+        let small = M.range in
+        laws_modulo M.MODULUS M.prime (omega arith) };
 
     fn size(&self) -> u32 {
         M::MODULUS

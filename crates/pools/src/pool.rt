@@ -33,5 +33,5 @@ impl<F: Field> Model for Pool<F> {
 
     ghost view = { λ p. record { field = p.field; policy = p.policy; words = p.words; list = record { held = p.cards.items; turned = p.turned } } };
 
-    ghost invariant = { λ p. Orderly (F.Field.arithmetic p.field) p.policy p.words (record { held = p.cards.items; turned = p.turned }) };
+    ghost invariant = { λ p. Orderly (F.arithmetic p.field) p.policy p.words (record { held = p.cards.items; turned = p.turned }) };
 }

@@ -42,7 +42,7 @@ pub enum Reply {
 
 // Judges for a key buffer of this length.
 fn judged<F: Field>(pool: &Pool<F>, key_length: usize) -> Result<Reply, Refusal>
-    ensures { Answers F.Field.arithmetic pool.now (judge key_length) (replied result) }
+    ensures { Answers F.arithmetic pool.now (judge key_length) (replied result) }
 {
     if key_length != pool.words().get() as usize {
         return Err(Refusal::WrongBufferLength);
@@ -52,9 +52,9 @@ fn judged<F: Field>(pool: &Pool<F>, key_length: usize) -> Result<Reply, Refusal>
 
 // Makes one request.
 fn one<F: Field>(pool: &mut Pool<F>, request: Request) -> Result<Reply, Refusal>
-    ensures list { Steps F.Field.arithmetic pool.old (called request.entry) pool.new }
+    ensures list { Steps F.arithmetic pool.old (called request.entry) pool.new }
     ensures frame { Frame pool.old pool.new }
-    ensures answer { Answers F.Field.arithmetic pool.old (called request.entry) (replied result) }
+    ensures answer { Answers F.arithmetic pool.old (called request.entry) (replied result) }
 {
     match request {
         Request::Present { level, id, values } => {
@@ -81,7 +81,7 @@ pub fn run_session<F: Field + Drop>(
     requests: &[Request],
     replies: &mut [Result<Reply, Refusal>],
 )
-    ensures run { RightRun (F.Field.arithmetic field) policy words none_yet (map called (take (min (length requests.now) (length replies.old)) requests.now)) (map replied (take (min (length requests.now) (length replies.old)) replies.new)) }
+    ensures run { RightRun (F.arithmetic field) policy words none_yet (map called (take (min (length requests.now) (length replies.old)) requests.now)) (map replied (take (min (length requests.now) (length replies.old)) replies.new)) }
     ensures rest { drop (min (length requests.now) (length replies.old)) replies.new ≡ drop (min (length requests.now) (length replies.old)) replies.old }
 {
     let mut pool = Pool::new(field, policy, words);

@@ -20,8 +20,8 @@ use trays::reader::TrayReader;
 fn run_cards<F: Field + Drop>(field: F, opening: Opening, reader: &mut TrayReader) -> TrayReport
     requires { (ps : List Placed) (e : Ending) → Reading reader.old ps e → ToCome opening.words opening.cards ps e }
     ensures header { result.header ≡ Some (record { field = opening.field; levels = length opening.policy; words = opening.words; cards = opening.cards }) }
-    ensures refusals { (ps : List Placed) (e : Ending) → Reading reader.old ps e → turned_by result.refused.items ≡ turned_from (F.Field.arithmetic field) opening.policy opening.words [] ps }
-    ensures concludes { (ps : List Placed) (e : Ending) → Reading reader.old ps e → Concludes (F.Field.arithmetic field) opening.policy opening.words ps e result.conclusion }
+    ensures refusals { (ps : List Placed) (e : Ending) → Reading reader.old ps e → turned_by result.refused.items ≡ turned_from (F.arithmetic field) opening.policy opening.words [] ps }
+    ensures concludes { (ps : List Placed) (e : Ending) → Reading reader.old ps e → Concludes (F.arithmetic field) opening.policy opening.words ps e result.conclusion }
 {
     let policy = opening.policy;
     let words = opening.words;

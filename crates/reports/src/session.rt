@@ -28,9 +28,9 @@ impl<F: Field> Session<F> {
     fn present(&mut self, index: u8, bytes: &[u8], offset: usize)
         requires long { length bytes.now ≡ card_size self.old.pool.words }
         requires room { (length self.old.refused.items < 255) × (index < 255) }
-        ensures list { self.new.pool.list ≡ step (F.Field.arithmetic self.old.pool.field) self.old.pool.policy self.old.pool.words self.old.pool.list (present (card_in self.old.pool.words bytes.now)) }
+        ensures list { self.new.pool.list ≡ step (F.arithmetic self.old.pool.field) self.old.pool.policy self.old.pool.words self.old.pool.list (present (card_in self.old.pool.words bytes.now)) }
         ensures frame { Frame self.old.pool self.new.pool }
-        ensures refusals { turned_by self.new.refused.items ≡ turned_by self.old.refused.items ++ told (index + 1) offset (refuses_card (F.Field.arithmetic self.old.pool.field) self.old.pool.policy self.old.pool.words self.old.pool.list.held (card_in self.old.pool.words bytes.now)) }
+        ensures refusals { turned_by self.new.refused.items ≡ turned_by self.old.refused.items ++ told (index + 1) offset (refuses_card (F.arithmetic self.old.pool.field) self.old.pool.policy self.old.pool.words self.old.pool.list.held (card_in self.old.pool.words bytes.now)) }
         ensures counted { length self.new.refused.items ≤ length self.old.refused.items + 1 }
     {
         let words = self.pool.words().get();
@@ -55,7 +55,7 @@ impl<F: Field> Session<F> {
         requires fresh { (self.old.pool.list ≡ none_yet) × (self.old.refused.items ≡ []) }
         requires coming { (ps : List Placed) (e : Ending) → Reading reader.old ps e → ToCome self.old.pool.words cards ps e }
         ensures frame { Frame self.old.pool self.new.pool }
-        ensures all { (ps : List Placed) (e : Ending) → Reading reader.old ps e → (turned_by self.new.refused.items ≡ turned_from (F.Field.arithmetic self.old.pool.field) self.old.pool.policy self.old.pool.words [] ps) × (self.new.pool.list ≡ list_after (F.Field.arithmetic self.old.pool.field) self.old.pool.policy self.old.pool.words ps) × PresentsTo result e }
+        ensures all { (ps : List Placed) (e : Ending) → Reading reader.old ps e → (turned_by self.new.refused.items ≡ turned_from (F.arithmetic self.old.pool.field) self.old.pool.policy self.old.pool.words [] ps) × (self.new.pool.list ≡ list_after (F.arithmetic self.old.pool.field) self.old.pool.policy self.old.pool.words ps) × PresentsTo result e }
     {
         for i in 0..cards {
             let Item::Card { bytes, offset } = part(reader)? else {
@@ -69,7 +69,7 @@ impl<F: Field> Session<F> {
 
     // The counts and the verdict.
     fn judged(&self) -> Judged
-        ensures { Judges (F.Field.arithmetic self.now.pool.field) self.now.pool.policy self.now.pool.words self.now.pool.list result }
+        ensures { Judges (F.arithmetic self.now.pool.field) self.now.pool.policy self.now.pool.words self.now.pool.list result }
     {
         Judged {
             held: self.pool.held(),
@@ -82,8 +82,8 @@ impl<F: Field> Session<F> {
     pub(crate) fn run(&mut self, reader: &mut TrayReader, cards: u8) -> Result<Judged, Stop>
         requires fresh { (self.old.pool.list ≡ none_yet) × (self.old.refused.items ≡ []) }
         requires coming { (ps : List Placed) (e : Ending) → Reading reader.old ps e → ToCome self.old.pool.words cards ps e }
-        ensures refusals { (ps : List Placed) (e : Ending) → Reading reader.old ps e → turned_by self.new.refused.items ≡ turned_from (F.Field.arithmetic self.old.pool.field) self.old.pool.policy self.old.pool.words [] ps }
-        ensures concludes { (ps : List Placed) (e : Ending) → Reading reader.old ps e → Concludes (F.Field.arithmetic self.old.pool.field) self.old.pool.policy self.old.pool.words ps e result }
+        ensures refusals { (ps : List Placed) (e : Ending) → Reading reader.old ps e → turned_by self.new.refused.items ≡ turned_from (F.arithmetic self.old.pool.field) self.old.pool.policy self.old.pool.words [] ps }
+        ensures concludes { (ps : List Placed) (e : Ending) → Reading reader.old ps e → Concludes (F.arithmetic self.old.pool.field) self.old.pool.policy self.old.pool.words ps e result }
     {
         self.present_all(reader, cards)?;
         Ok(self.judged())

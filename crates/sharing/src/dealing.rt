@@ -35,7 +35,7 @@ impl OpenedDealing {
     // Whether the coefficients are fit to be loaded: as many as the policy and the words ask for, and each an element of
     // the field.
     pub fn trial<F: Field>(&self, field: &F, coefficients: &[u32]) -> Result<(), Refusal>
-        ensures { refused result ≡ refuses_loading (F.Field.arithmetic field.now) self.now.policy self.now.words coefficients.now }
+        ensures { refused result ≡ refuses_loading (F.arithmetic field.now) self.now.policy self.now.words coefficients.now }
     {
         if coefficients.len() != self.words.get() as usize * self.policy.top() as usize {
             return Err(Refusal::WrongCoefficientCount);
@@ -66,8 +66,8 @@ impl LoadedDealing<'_> {
         id: u32,
         values: &mut [u32],
     ) -> Result<(), Refusal>
-        ensures answer { refused result ≡ refuses_issue (F.Field.arithmetic field.now) self.now.opened.policy self.now.opened.words (coefficients_of self.now) level id (length values.old) }
-        ensures values { MatchResult result (λ _. values.new ≡ values_of (F.Field.arithmetic field.now) self.now.opened.policy self.now.opened.words (coefficients_of self.now) level id) (λ _. values.new ≡ values.old) }
+        ensures answer { refused result ≡ refuses_issue (F.arithmetic field.now) self.now.opened.policy self.now.opened.words (coefficients_of self.now) level id (length values.old) }
+        ensures values { MatchResult result (λ _. values.new ≡ values_of (F.arithmetic field.now) self.now.opened.policy self.now.opened.words (coefficients_of self.now) level id) (λ _. values.new ≡ values.old) }
     {
         let loaded: &[u32] = self.coefficients;
         self.opened.trial(field, loaded)?;

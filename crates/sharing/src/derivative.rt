@@ -35,7 +35,7 @@ impl Derivative {
     // The derivative of the word with these coefficients: the power of the id grows from term to term.
     fn of_word<F: Field>(&self, factors: &Factors<F>, coefficients: &[u32]) -> u32
         requires { length coefficients.now ≡ self.now.top }
-        ensures { result ≡ derivative (F.Field.arithmetic factors.now.field.now) self.now.top self.now.order self.now.id (λ i. slice_index coefficients.now i) }
+        ensures { result ≡ derivative (F.arithmetic factors.now.field.now) self.now.top self.now.order self.now.id (λ i. slice_index coefficients.now i) }
     {
         let field = factors.field;
         let mut sum = 0;
@@ -52,7 +52,7 @@ impl Derivative {
     // Writes the value of every word: those of word j begin at j × top.
     pub(crate) fn write_values<F: Field>(&self, field: &F, coefficients: &[u32], values: &mut [u32])
         requires { (length values.old ≤ 16) × (length coefficients.now ≡ length values.old * self.now.top) }
-        ensures { values.new ≡ row (length values.old) (λ j. derivative (F.Field.arithmetic field.now) self.now.top self.now.order self.now.id (λ i. slice_index coefficients.now (j * self.now.top + i))) }
+        ensures { values.new ≡ row (length values.old) (λ j. derivative (F.arithmetic field.now) self.now.top self.now.order self.now.id (λ i. slice_index coefficients.now (j * self.now.top + i))) }
     {
         let factors = Factors::of(field);
         for (j, value) in values.iter_mut().enumerate() {
@@ -64,7 +64,7 @@ impl Derivative {
     // By what each coefficient of a word is multiplied: nothing below the order, then the factor in front times a power of
     // the id.
     pub(crate) fn multipliers<F: Field>(&self, field: &F) -> [u32; MOST_COEFFICIENTS]
-        ensures { MultipliesTo (F.Field.arithmetic field.now) self.now.top self.now.order self.now.id result }
+        ensures { MultipliesTo (F.arithmetic field.now) self.now.top self.now.order self.now.id result }
     {
         let factors = Factors::of(field);
         let mut multipliers = [0; MOST_COEFFICIENTS];

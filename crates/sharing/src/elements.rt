@@ -6,7 +6,7 @@ use fields::Field;
 
 // Whether some number is not below the field's size.
 pub fn any_outside<F: Field>(field: &F, numbers: &[u32]) -> bool
-    ensures { result ≡ list_any (λ a. nat_le (F.Field.arithmetic field.now).size a) numbers.now }
+    ensures { result ≡ list_any (λ a. nat_le (F.arithmetic field.now).size a) numbers.now }
 {
     numbers.iter().any(|number| *number >= field.size())
 }

@@ -12,7 +12,7 @@ use fields::Field;
 pub(crate) struct Factors<'a, F: Field> {
     pub(crate) field: &'a F,
     elements: [u32; MOST_COEFFICIENTS],
-    ghost wholes: { Wholes (F.Field.arithmetic field.now) elements },
+    ghost wholes: { Wholes (F.arithmetic field.now) elements },
 }
 
 impl<'a, F: Field> Factors<'a, F> {
@@ -32,7 +32,7 @@ impl<'a, F: Field> Factors<'a, F> {
     // i × (i − 1) × … × (i − order + 1) as an element.
     pub(crate) fn falling(&self, i: usize, order: usize) -> u32
         requires { (order ≤ i) × (i < 32) }
-        ensures { result ≡ falling (F.Field.arithmetic self.now.field.now) i order }
+        ensures { result ≡ falling (F.arithmetic self.now.field.now) i order }
     {
         let mut product = 1;
         // No plainer over the elements from i − order + 1 to i, backwards.

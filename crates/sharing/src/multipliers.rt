@@ -13,7 +13,7 @@ pub fn multipliers<F: Field>(
     level: u8,
     id: u32,
 ) -> [u32; MOST_COEFFICIENTS]
-    ensures { Multiplies (F.Field.arithmetic field.now) policy level id result }
+    ensures { Multiplies (F.arithmetic field.now) policy level id result }
 {
     Derivative::on_card(&policy, level, id).multipliers(field)
 }

@@ -17,14 +17,14 @@ impl<F: Field> Pool<F> {
 
     // How many held cards have this level or a lower one.
     fn up_to(&self, level: u8) -> usize
-        ensures { result ≡ up_to (F.Field.arithmetic self.now.field) self.now.policy self.now.words level self.now.list.held }
+        ensures { result ≡ up_to (F.arithmetic self.now.field) self.now.policy self.now.words level self.now.list.held }
     {
         self.cards.iter().filter(|card| card.level <= level).count()
     }
 
     // Whether for some level enough cards of it and the lower ones are held.
     pub fn meets_policy(&self) -> bool
-        ensures { Answers F.Field.arithmetic self.now count (truth result) }
+        ensures { Answers F.arithmetic self.now count (truth result) }
     {
         for level in 0..self.policy.levels() {
             let Some(threshold) = self.policy.threshold(level) else {
@@ -39,7 +39,7 @@ impl<F: Field> Pool<F> {
 
     // How many cards are held.
     pub fn held(&self) -> usize
-        ensures answer { Answers F.Field.arithmetic self.now ask_held (number result) }
+        ensures answer { Answers F.arithmetic self.now ask_held (number result) }
         ensures range { result ≤ 64 }
     {
         self.cards.len()
@@ -47,7 +47,7 @@ impl<F: Field> Pool<F> {
 
     // How many presentations were turned away; the count stops at 65,535.
     pub fn turned_away(&self) -> u16
-        ensures { Answers F.Field.arithmetic self.now ask_turned (number result) }
+        ensures { Answers F.arithmetic self.now ask_turned (number result) }
     {
         self.turned
     }

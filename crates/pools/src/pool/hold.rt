@@ -37,7 +37,7 @@ impl<F: Field> Pool<F> {
 
     // The card to hold, or why it is turned away.
     fn card(&self, level: u8, id: u32, values: &[u32]) -> Result<HeldCard, Refusal>
-        ensures answer { refused result ≡ refuses_card (F.Field.arithmetic self.now.field) self.now.policy self.now.words self.now.list.held (record { level = level; id = id; values = values.now }) }
+        ensures answer { refused result ≡ refuses_card (F.arithmetic self.now.field) self.now.policy self.now.words self.now.list.held (record { level = level; id = id; values = values.now }) }
         ensures card { IfOk result (λ c. c ≡ record { level = level; id = id; values = values.now }) }
     {
         if values.len() != self.words.get() as usize {
@@ -66,9 +66,9 @@ impl<F: Field> Pool<F> {
 
     // Holds the card, or turns it away and counts that.
     pub fn present(&mut self, level: u8, id: u32, values: &[u32]) -> Result<(), Refusal>
-        ensures list { Steps F.Field.arithmetic self.old (present (record { level = level; id = id; values = values.now })) self.new }
+        ensures list { Steps F.arithmetic self.old (present (record { level = level; id = id; values = values.now })) self.new }
         ensures frame { Frame self.old self.new }
-        ensures answer { Answers F.Field.arithmetic self.old (present (record { level = level; id = id; values = values.now })) (answer_of (refused result)) }
+        ensures answer { Answers F.arithmetic self.old (present (record { level = level; id = id; values = values.now })) (answer_of (refused result)) }
     {
         match self.card(level, id, values) {
             Ok(card) => {
@@ -84,9 +84,9 @@ impl<F: Field> Pool<F> {
 
     // Takes the card with this id out.
     pub fn withdraw(&mut self, id: u32) -> Result<(), Refusal>
-        ensures list { Steps F.Field.arithmetic self.old (withdraw id) self.new }
+        ensures list { Steps F.arithmetic self.old (withdraw id) self.new }
         ensures frame { Frame self.old self.new }
-        ensures answer { Answers F.Field.arithmetic self.old (withdraw id) (answer_of (refused result)) }
+        ensures answer { Answers F.arithmetic self.old (withdraw id) (answer_of (refused result)) }
     {
         if !self.holds(id) {
             return Err(Refusal::IdNotHeld);

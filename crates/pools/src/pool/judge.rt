@@ -32,7 +32,7 @@ fn key_form(top: usize) -> Form
 impl<F: Field> Pool<F> {
     // The equation that a card is.
     fn equation(&self, card: &HeldCard) -> Equation
-        ensures { Says (F.Field.arithmetic self.now.field) self.now.policy self.now.words card.now result }
+        ensures { Says (F.arithmetic self.now.field) self.now.policy self.now.words card.now result }
     {
         let mut right_sides = [0; MOST_RIGHT_SIDES];
         right_sides[..card.values.len()].copy_from_slice(&card.values);
@@ -44,7 +44,7 @@ impl<F: Field> Pool<F> {
 
     // The equations of the held cards.
     fn equations(&self) -> ArrayVec<Equation, MOST_CARDS>
-        ensures { AllSay (F.Field.arithmetic self.now.field) self.now.policy self.now.words self.now.list.held result.items }
+        ensures { AllSay (F.arithmetic self.now.field) self.now.policy self.now.words self.now.list.held result.items }
     {
         let mut equations = ArrayVec::new();
         for card in self.cards.as_slice() {
@@ -55,7 +55,7 @@ impl<F: Field> Pool<F> {
 
     // What the equations of the held cards say of the key's words.
     fn decision(&self) -> Decision
-        ensures right { Right (F.Field.arithmetic self.now.field) self.now.policy self.now.words self.now.list.held (verdict_by self.now.words result) }
+        ensures right { Right (F.arithmetic self.now.field) self.now.policy self.now.words self.now.list.held (verdict_by self.now.words result) }
         ensures padded { Padded self.now.words result }
     {
         let top = self.policy.top();
@@ -69,7 +69,7 @@ impl<F: Field> Pool<F> {
 
     // What the held cards say of the key.
     pub fn verdict(&self) -> Judgement<Key>
-        ensures { Right (F.Field.arithmetic self.now.field) self.now.policy self.now.words self.now.list.held (verdict_of result) }
+        ensures { Right (F.arithmetic self.now.field) self.now.policy self.now.words self.now.list.held (verdict_of result) }
     {
         match self.decision() {
             Decision::Contradictory => Judgement::Contradictory,
@@ -83,7 +83,7 @@ impl<F: Field> Pool<F> {
 
     // Says what the held cards tell of the key, and writes it into the buffer where there is one.
     pub fn judge(&self, key: &mut [u32]) -> Result<Judgement<()>, Refusal>
-        ensures answer { Answers F.Field.arithmetic self.now (judge (length key.old)) (told result key.new) }
+        ensures answer { Answers F.arithmetic self.now (judge (length key.old)) (told result key.new) }
         ensures buffer { Kept result key.old key.new }
     {
         if key.len() != self.words.get() as usize {
