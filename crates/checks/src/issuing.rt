@@ -26,7 +26,7 @@ const THIRTY_TWO_BYTES: [u32; 32] = [
     123, 140, 157, 174, 191, 208, 225, 242, 3, 20,
 ];
 
-// The number of the refusal, or 0.
+// The number of the refusal, or 0: the tests' tables are numbers.
 fn refusal<T: Drop>(res: Result<T, Refusal>) -> u8 {
     res.map_or_else(|refusal| refusal.number(), |_| 0)
 }

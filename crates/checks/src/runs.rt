@@ -2,7 +2,6 @@
 use reports::report::Judged;
 use reports::run::run_tray;
 use reports::text::report_text;
-use std::alloc::Global;
 use std::process::Abort;
 use std::test::Fail;
 
@@ -13,14 +12,14 @@ pub(crate) const TRAY: [u8; 42] = [
 ];
 
 // Whether the tray's report has this text.
-fn reports(rt: &impl Abort, heap: Global, tray: &[u8], text: &str) -> Result<(), Fail> {
+fn reports(rt: &(impl Abort + AllocGlobal), tray: &[u8], text: &str) -> Result<(), Fail> {
     let report = run_tray(tray);
-    let written = report_text(heap, &report)?;
+    let written = report_text(rt.alloc(), &report)?;
     assert!(rt; written.as_str() == text);
     Ok(())
 }
 
-// The number and the offset of what stopped a run, or zeros.
+// The number and the offset of what stopped a run, or zeros: the tests' tables are numbers.
 fn stop_of(tray: &[u8]) -> (u8, usize) {
     let report = run_tray(tray);
     match report.conclusion {
@@ -33,26 +32,22 @@ fn stop_of(tray: &[u8]) -> (u8, usize) {
 fn the_tray_of_the_manual(rt: HostRuntime) -> Result<(), Fail> {
     reports(
         &rt,
-        rt.alloc(),
         &TRAY,
         "field 2 levels 2 words 1 cards 4\ncard 4 at 33 refused 12 pool\nheld 3 turned 1\nkey 5\n",
     )?;
     reports(
         &rt,
-        rt.alloc(),
         &TRAY[0..40],
         "field 2 levels 2 words 1 cards 4\nfault 1 reader at 33\n",
     )?;
-    reports(&rt, rt.alloc(), &[2, 2, 3, 2], "fault 4 policy at 1\n")?;
+    reports(&rt, &[2, 2, 3, 2], "fault 4 policy at 1\n")?;
     reports(
         &rt,
-        rt.alloc(),
         &[1, 1, 2, 1, 0],
         "field 1 levels 1 words 1 cards 0\nheld 0 turned 0\nopen\n",
     )?;
     reports(
         &rt,
-        rt.alloc(),
         &[1, 1, 2, 1, 0, 9],
         "field 1 levels 1 words 1 cards 0\nfault 15 reader at 5\n",
     )
@@ -100,7 +95,6 @@ fn faults(rt: HostRuntime) {
 fn numbers_at_the_size(rt: HostRuntime) -> Result<(), Fail> {
     reports(
         &rt,
-        rt.alloc(),
         &[
             1, 1, 1, 1, 4, 0, 255, 0, 0, 0, 255, 0, 0, 0, 0, 0, 1, 0, 0, 1, 0, 0, 0, 0, 1, 0, 0, 0,
             0, 1, 0, 0, 0, 0, 0, 0, 0, 1, 0, 0, 0,
@@ -109,7 +103,6 @@ fn numbers_at_the_size(rt: HostRuntime) -> Result<(), Fail> {
     )?;
     reports(
         &rt,
-        rt.alloc(),
         &[
             2, 1, 1, 1, 3, 0, 0, 0, 1, 0, 0, 0, 1, 0, 0, 1, 0, 1, 0, 7, 0, 0, 0, 0, 2, 0, 0, 0, 1,
             0, 1, 0,
@@ -168,7 +161,6 @@ fn the_longest_tray(rt: HostRuntime) -> Result<(), Fail> {
 fn verdicts(rt: HostRuntime) -> Result<(), Fail> {
     reports(
         &rt,
-        rt.alloc(),
         &[
             2, 2, 2, 3, 1, 3, 0, 4, 0, 0, 0, 44, 0, 0, 0, 1, 3, 0, 0, 0, 64, 0, 0, 0, 1, 5, 0, 0,
             0, 152, 0, 0, 0,
@@ -177,7 +169,6 @@ fn verdicts(rt: HostRuntime) -> Result<(), Fail> {
     )?;
     reports(
         &rt,
-        rt.alloc(),
         &[
             2, 2, 2, 3, 1, 3, 0, 4, 0, 0, 0, 45, 0, 0, 0, 1, 3, 0, 0, 0, 64, 0, 0, 0, 1, 5, 0, 0,
             0, 152, 0, 0, 0,
@@ -186,7 +177,6 @@ fn verdicts(rt: HostRuntime) -> Result<(), Fail> {
     )?;
     reports(
         &rt,
-        rt.alloc(),
         &[
             1, 1, 1, 3, 1, 0, 9, 0, 0, 0, 7, 0, 0, 0, 0, 0, 0, 0, 255, 0, 0, 0,
         ],

@@ -1,5 +1,4 @@
 // What linear equations say of a form. The systems were worked out by hand.
-use fields::byte::ByteField;
 use fields::prime::WIDE_FIELD;
 use linear::decide::{Decision, decide};
 use linear::equation::{Equation, Form};

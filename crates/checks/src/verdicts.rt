@@ -249,7 +249,7 @@ fn the_order_of_cards_does_not_matter(rt: HostRuntime) -> Result<(), Fail> {
     Ok(())
 }
 
-// The same without a buffer, and what a session replies.
+// The same without a buffer.
 #[test]
 fn a_verdict_holds_the_key(rt: HostRuntime) -> Result<(), Fail> {
     let mut pool = empty(&[2, 3])?;

@@ -2,6 +2,7 @@
 --   card                                     a card with one value
 --   policy                                   thresholds 2 and 3
 --   dependent, two_cards, midpoint, session  calls on a new pool
+--   session_answers                          the answers to the last of them
 --   WorkedCases                              all of them together
 -- Assumes nothing.
 use Rattle.std.specs.Prelude.{◌≡◌, ℕ, true, false, List, [], ◌∷◌}

@@ -1,13 +1,17 @@
 -- The card list of a pool, worked out from the calls alone, and the right answer to each call.
 --   CardList, none_yet    the held cards, oldest first, and how many presentations were turned away; at the start
 --   Call                  a call by its arguments
---   refuses_card          why a card is turned away while these are held
+--   holds                 a card with this id is among them
+--   refusals, refuses_card   the conditions on a card while these are held, and why it is turned away
+--   presented             the list after a card was presented, refused or not
 --   step, after           the list after a call, and after many
+--   up_to                 how many held cards have a level or a lower one
 --   MeetsPolicy           for some level, enough held cards have that level or a lower one
---   Answer                what a call answers
+--   Answer, answer_of     what a call answers; done, or refused by a number
 --   RightAnswer           the right answer to a call on this list
 --   RightRun              every answer of a whole session is right
---   Orderly               what every list that a session leads to keeps
+--   Accepted, Apart       what every held card has; no two have one id
+--   Orderly               what every pool keeps, and every list that a session leads to
 -- Assumes nothing.
 use Rattle.std.specs.Prelude.{◌≡◌, ℕ, ◌+◌, ◌<◌, ◌≤◌, min, Bool, true, false, not, ◌||◌, List, [], ◌∷◌, ◌++◌, length, filter, Some, None, Option, ◌==◌, ◌≢◌, nat_le, slice_index}
 use Rattle.std.specs.List.{list_any}

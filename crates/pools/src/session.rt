@@ -50,7 +50,7 @@ fn judged<F: Field>(pool: &Pool<F>, key_length: usize) -> Result<Reply, Refusal>
     Ok(Reply::Judged(pool.verdict()))
 }
 
-// Makes one request.
+// Makes one request. A request is a value that can be copied and compared, which a closure in its place could not be.
 fn one<F: Field>(pool: &mut Pool<F>, request: Request) -> Result<Reply, Refusal>
     ensures list { Steps F.arithmetic pool.old (called request.entry) pool.new }
     ensures frame { Frame pool.old pool.new }

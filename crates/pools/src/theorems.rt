@@ -25,6 +25,7 @@ pub fn cases_stand() -> bool
     true
 }
 
+// The promises hang on calls, so that code without them is refused.
 fn theorems()
     ensures one_verdict { OneVerdictIsRight }
     ensures one_run { OneRunIsRight }

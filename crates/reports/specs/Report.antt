@@ -1,9 +1,13 @@
 -- The text of a report, as bytes. Every line ends with a newline, and numbers are in decimal.
+--   newline           the byte that ends a line
 --   header_line       the first line: what the tray says before its cards
 --   refused_line      a card that the pool turned away
 --   counts_line       how many cards are held, and how many were turned away
+--   words_text        numbers, each after a space
 --   verdict_line      the verdict; a key with its words after single spaces
+--   layer_name        who refused, as a word
 --   fault_line        what stopped a run, by its number, who refused, and where
+--   header_text, conclusion_text   the first line if there is one; the counts and the verdict, or the fault
 --   report_text       the whole text: the first line if there is one, the refused cards, and how the run came out
 -- Assumes nothing.
 use Rattle.std.specs.Prelude.{ℕ, List, [], ◌∷◌, ◌++◌, Some, None, Ok, Err, codes, decimal, Option, Result}

@@ -1,8 +1,10 @@
 -- What a run of a tray reports, from the parts that the tray's bytes are and how they end.
 --   arithmetic_of      the arithmetic of a tray's field
 --   TurnedAway         a card that the pool turned away, with the number of the reason
+--   turned_card        the one that an entry of a report says
 --   turned_by          those that a report lists
 --   card_in            the card that a part is
+--   told               what is told of a card that is refused, or is not
 --   list_after         the card list after these cards are presented
 --   turned_from        the cards that are turned away, each while those before it were presented
 --   Stops              a stop is this one

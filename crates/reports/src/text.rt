@@ -11,13 +11,13 @@ impl fmt::Display for Header {
     ghost output = { λ h. Some (header_line h) };
 
     fn fmt<W: fmt::Write>(&self, f: &mut fmt::Formatter<W>) -> fmt::Result {
-        let field = self.field.number();
-        let levels = self.levels;
-        let words = self.words.get();
-        let cards = self.cards;
         write!(
             f,
-            "field {field} levels {levels} words {words} cards {cards}\n"
+            "field {} levels {} words {} cards {}\n",
+            self.field.number(),
+            self.levels,
+            self.words.get(),
+            self.cards
         )
     }
 }
@@ -26,10 +26,13 @@ impl fmt::Display for RefusedCard {
     ghost output = { λ c. Some (refused_line c) };
 
     fn fmt<W: fmt::Write>(&self, f: &mut fmt::Formatter<W>) -> fmt::Result {
-        let ordinal = self.ordinal;
-        let offset = self.offset;
-        let number = self.refusal.number();
-        write!(f, "card {ordinal} at {offset} refused {number} pool\n")
+        write!(
+            f,
+            "card {} at {} refused {} pool\n",
+            self.ordinal,
+            self.offset,
+            self.refusal.number()
+        )
     }
 }
 
@@ -48,10 +51,13 @@ impl fmt::Display for Stop {
     ghost output = { λ s. Some (fault_line s) };
 
     fn fmt<W: fmt::Write>(&self, f: &mut fmt::Formatter<W>) -> fmt::Result {
-        let number = self.refusal.number();
-        let layer = self.layer;
-        let offset = self.offset;
-        write!(f, "fault {number} {layer} at {offset}\n")
+        write!(
+            f,
+            "fault {} {} at {}\n",
+            self.refusal.number(),
+            self.layer,
+            self.offset
+        )
     }
 }
 
@@ -60,9 +66,7 @@ impl fmt::Display for Judged {
     ghost output = { λ j. Some (counts_line j.held j.turned ++ verdict_line j.verdict) };
 
     fn fmt<W: fmt::Write>(&self, f: &mut fmt::Formatter<W>) -> fmt::Result {
-        let held = self.held;
-        let turned = self.turned;
-        write!(f, "held {held} turned {turned}\n")?;
+        write!(f, "held {} turned {}\n", self.held, self.turned)?;
         match self.verdict {
             Judgement::Contradictory => write!(f, "contradictory\n"),
             Judgement::Open => write!(f, "open\n"),

@@ -1,5 +1,6 @@
 -- Cards, and the values that a list of coefficients gives them.
 --   whole, power, falling    whole numbers, powers and falling products, as elements of a field
+--   row_from, row            the list of what a function gives at the places from one on, and from 0 on
 --   derivative               the formal derivative of a polynomial at a point
 --   Card                     a card: its level, its id and its values
 --   top, order               the last threshold of a policy, and the order of a level's derivative

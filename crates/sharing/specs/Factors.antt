@@ -1,4 +1,4 @@
--- A table of whole numbers as elements; inner to the issuing of cards.
+-- A table of whole numbers as elements; inner to the issuing and the judging of cards.
 --   Wholes    32 numbers, of which the nth stands for n
 -- Assumes nothing.
 use Rattle.std.specs.Prelude.{◌≡◌, ℕ, ◌<◌, List, length, slice_index}

@@ -12,7 +12,8 @@ use crate::refusal::Refusal;
 use crate::words::WordCount;
 use fields::Field;
 
-// A dealing that has no coefficients yet.
+// A dealing that has no coefficients yet. A policy and a number of words go together here and in a pool; one value of both
+// would be no plainer, since each is made and refused apart, and each call takes them once.
 #[derive(Drop)]
 pub struct OpenedDealing {
     policy: Policy,

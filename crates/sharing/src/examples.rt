@@ -11,6 +11,7 @@ pub fn examples_stand() -> bool
     true
 }
 
+// The promise hangs on a call, so that code without it is refused.
 fn examples()
     ensures { WorkedExamples }
 {}

@@ -58,12 +58,12 @@ impl Refusal {
     }
 }
 
+// By hand: a derive would say the sentences again, beside those that clauses name.
 impl fmt::Display for Refusal {
     ghost output = { λ r. Some (sentence r) };
 
     fn fmt<W: fmt::Write>(&self, f: &mut fmt::Formatter<W>) -> fmt::Result {
-        let sentence = self.sentence();
-        write!(f, "{sentence}")
+        write!(f, "{}", self.sentence())
     }
 }
 

@@ -1,7 +1,9 @@
 -- What a reader of a tray says, in the words of the layout.
---   answer    what a result of the reader says
+--   Answer    a part, a part with an offset, or an ending; as_ending, as_answer, answer: what a fault, an item and a result say
+--   due_part  what it has to say where this part is to come
 --   due       what it has to say where these parts are to come, and then this ending
 --   rest      the parts that are then still to come
+--   From      at this stage, from an offset on, the bytes are these parts, with this ending
 --   Reading   from where a reader stands, its bytes are these parts, with this ending
 --   AtStart   a reader has all of these bytes to come
 --   NextSaid  what a request says, and what it leaves to come

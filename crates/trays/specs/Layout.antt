@@ -1,10 +1,16 @@
 -- The layout of a tray, as a relation between its bytes and the parts that they are.
 --   Part       what a part of a tray says
 --   written    the bytes of a part
+--   card_size  how many bytes a card of so many words has
 --   Next       what comes next in a tray that is sound so far
 --   Follows    a part that may stand where something is to come, and what comes after it
 --   Wrong      why no part that may stand there does, by its number
+--   Ending     the end, or a fault by its number with its offset
+--   Placed     a part with its offset
 --   Reads      bytes, from a place in a tray on, are these parts and then end, or then have a fault
+--   OneReading one list of parts with one ending, and no other
+--   Tray, AllSized, Sound   what a whole tray says; cards of one length; a tray that keeps the format
+--   parts_of, placed        the parts of a tray, in order; parts one after the other, from an offset on
 --   TrayReadsOneWay, TrayReadsBack, WholeTrayIsSound   the theorems about it
 -- Assumes nothing.
 use Rattle.std.specs.Prelude.{◌≡◌, ℕ, suc, ◌+◌, ◌*◌, ◌<◌, ◌≤◌, List, [], ◌∷◌, ◌++◌, map, length}

@@ -5,7 +5,8 @@ ghost use Rattle.trays.specs.Cards.{Says, Sized, id_in, level_in, little_endian,
 use crate::limits::card_size;
 use sharing::words::{MOST_WORDS, WordCount};
 
-// What a card says. The first values are the card's, as many as it has words; the others are zero.
+// What a card says. The first values are the card's, as many as it has words; the others are zero, and a caller may read
+// them, so they stand in an array.
 #[derive(Clone, Copy)]
 pub struct TrayCard {
     pub level: u8,

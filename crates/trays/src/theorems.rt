@@ -18,7 +18,7 @@ pub fn theorems_stand() -> bool
     true
 }
 
-// No plainer: the promises hang on a call, and code without it is refused.
+// The promises hang on a call, so that code without it is refused.
 fn theorems()
     ensures one_way { TrayReadsOneWay }
     ensures back { TrayReadsBack }
