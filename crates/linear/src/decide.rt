@@ -7,6 +7,8 @@ use crate::shape::Shape;
 use crate::system::System;
 use fields::Field;
 
+// What equations tell of a form. A pool says the same three things of a key; one type for both would be no plainer, since
+// each has its own word for the third and holds something else there.
 #[derive(Clone, Copy, PartialEq, Eq, Debug)]
 pub enum Decision {
     // No elements solve the equations.

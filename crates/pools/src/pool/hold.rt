@@ -64,7 +64,8 @@ impl<F: Field> Pool<F> {
         Ok(HeldCard { level, id, values })
     }
 
-    // Holds the card, or turns it away and counts that.
+    // Holds the card, or turns it away and counts that. A level, an id and values are no plainer as one value, since callers
+    // have them apart.
     pub fn present(&mut self, level: u8, id: u32, values: &[u32]) -> Result<(), Refusal>
         ensures list { Steps F.arithmetic self.old (present (record { level = level; id = id; values = values.now })) self.new }
         ensures frame { Frame self.old self.new }
