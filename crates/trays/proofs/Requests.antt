@@ -7,6 +7,7 @@
 --   given        a part is there, and it is said
 --   byte_given   the same of a part of one byte
 --   ended_here   no card is to come and no byte is left
+--   at_end       where no card is to come, what is said of that is said of what is to come
 --   field_follows, card_follows   a field, or a card, may stand where one is to come
 --   no_card      a card is to come, and fewer bytes are left
 --   words_refused, words_taken    which numbers of words are refused, and by which number, and which are not
@@ -25,7 +26,7 @@ use Rattle.trays.specs.declared.field.TrayField.{TrayField}
 use Rattle.trays.specs.declared.field.TrayField.TheVariants.{Bytes, Wide}
 use Rattle.trays.specs.Fields.{field_number}
 use Rattle.trays.specs.Layout.{Part, field, card, written, Next, at_field, at_thresholds, at_cards, card_size, Follows, a_field, a_card, Wrong, Ending, Placed, Reads}
-use Rattle.trays.specs.Answers.{over, as_answer, due, due_part, rest, From, SaidFrom, fault_at}
+use Rattle.trays.specs.Answers.{over, as_answer, due, due_part, rest, From, Reading, Said, SaidFrom, fault_at}
 use Rattle.trays.proofs.OneWay.{goes_on, stops, ends, half_card}
 
 -- bytes cut out of others
@@ -88,6 +89,10 @@ ended_here w t u h same at_end = record {
       let s = ends {w = w} {at = t.position} (subst (λ bs. Reads (at_cards w 0) t.position bs parts e) (drop_all t.position t.bytes.now h) r) in
       (ap over (sym s.1) ∙ ap (λ ps. due ps e) (sym s.0), subst (λ x. From x u.position u.bytes.now (rest parts) e) (sym at_end) (ap rest s.0, s.1));
 }
+
+-- where no card is to come, what is said of that is said of what is to come
+pub at_end : (w : ℕ) (t u : TrayReader) (r : Result (Option Item) Fault) → t.stage ≡ stage.Cards w 0 → ((n : ℕ) → SaidFrom (at_cards n 0) t r u) → Said (Reading t) t r u
+at_end w t u r stands said = let it = said w in record { same = it.same; said = λ ps e reads. it.said ps e (subst (λ s. From s t.position t.bytes.now ps e) stands reads) }
 
 -- each field may stand where one has to
 pub field_follows : (f : TrayField) → Follows at_field (field (field_number f)) at_thresholds

@@ -1,12 +1,13 @@
 // A card of a tray, taken apart.
-ghost use Rattle.std.specs.Prelude.{◌≡◌, ℕ, ◌+◌, ◌-◌, ◌*◌, ◌<◌, ◌≤◌, [], ◌∷◌, ◌++◌, length, take, drop, replicate, MatchOption};
-ghost use Rattle.trays.specs.Cards.{Says, Sized, id_in, level_in, little_endian, numbers};
+ghost use Rattle.std.specs.Prelude.{◌≡◌, ℕ, ◌-◌, ◌*◌, ◌≤◌, ◌++◌, length, replicate, MatchOption};
+ghost use Rattle.trays.specs.Cards.{Says, Sized, little_endian, numbers};
 
 use crate::limits::card_size;
 use sharing::words::{MOST_WORDS, WordCount};
 
 // What a card says. The first values are the card's, as many as it has words; the others are zero, and a caller may read
-// them, so they stand in an array.
+// them, so they stand in an array, in fixed memory. A card that a pool holds has exactly its values instead, and is a type
+// of its own, since a tray has no pool.
 #[derive(Clone, Copy)]
 pub struct TrayCard {
     pub level: u8,
@@ -30,7 +31,8 @@ fn numbers_in(bytes: &[u8]) -> [u32; MOST_WORDS]
 {
     let (chunks, _) = bytes.as_chunks::<4>();
     let mut values = [0; MOST_WORDS];
-    // Tried, and the proof did not close: `array::from_fn(|i| chunks.get(i).map_or(0, |chunk| number(*chunk)))`.
+    // Tried, and the proof did not close: `array::from_fn(|i| chunks.get(i).map_or(0, |chunk| number(*chunk)))`, and a `zip`
+    // of the places with the chunks, of whose writes the check knows nothing.
     for (i, chunk) in chunks.iter().enumerate() {
         values[i] = number(*chunk);
     }
