@@ -19,10 +19,3 @@ loop-card-preserved g c =
       each = rw (more, c.push.ensures.items)
           (say_push (g.F.Field.arithmetic pool.field) pool.policy pool.words (take i held) c.loop-card.equations.items card c.equation.result inv.each c.equation.ensures);
     }
-
-pub returns : goal.returns
-returns g c =
-    let pool = c.args.self.now in
-    let seen : c.as_slice-card-items.result.now ≡ pool.list.held = c.as_slice-card-items.ensures.value ∙ ap (λ s. s.list.held) c.self.view_is in
-    let all = rw seen at c.loop-card-test.false in
-    rw take_all at c.loop-card.invariant.each
