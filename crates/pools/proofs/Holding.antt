@@ -51,7 +51,7 @@ module _ (F : Arithmetic) (w : ℕ) where
   all_below (x ∷ xs) e (suc j) l = all_below xs (or_parts (leb F.size x) (outside xs) e).1 j (omega arith)
 
   one_above : (xs : List ℕ) → outside xs ≡ true → (j : ℕ) × (j < length xs) × (F.size ≤ get_or xs j 0)
-  one_above [] e = let z : ◌≡◌ {A = ℕ} 0 1 = cc in absurd (omega arith)
+  one_above [] e = cc
   one_above (x ∷ xs) e =
       ⊎_elim (λ (h : leb F.size x ≡ true). (0, omega arith, leb-true F.size x h))
       (λ (h : outside xs ≡ true). let (j, l, m) = one_above xs h in (suc j, omega arith, m))
@@ -66,7 +66,7 @@ module _ (F : Arithmetic) (w : ℕ) where
   module _ (L : Laws F) (ts : List ℕ) (x : Values) where
     pub outside_never : (cs : List Card) → Every (λ c. length c.values ≡ w) cs → list_any (λ c. outside c.values) cs ≡ true
         → Every (CardSolved F L ts w x) cs → ⊥
-    outside_never [] long e s = let z : ◌≡◌ {A = ℕ} 0 1 = cc in omega arith
+    outside_never [] long e s = cc
     outside_never (c ∷ cs) long e s =
         ⊎_elim
         (λ (h : outside c.values ≡ true).

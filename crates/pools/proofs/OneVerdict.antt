@@ -1,4 +1,4 @@
--- Of list_any held cards one verdict is right, and no other: over every field, for all thresholds, words and cards. Here the
+-- Of any held cards one verdict is right, and no other: over every field, for all thresholds, words and cards. Here the
 -- elimination is a function of the theory, so that worked cases can be computed.
 --   card_row             the row that a card is
 --   solved_holds, holds_solved    numbers solve the cards just if their codes satisfy the rows

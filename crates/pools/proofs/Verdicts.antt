@@ -39,36 +39,36 @@ module _ (F : Arithmetic) (L : Laws F) (ts : List ℕ) (w : ℕ) (held : List Ca
     contradictory_if = λ n. refl;
     contradictory_only_if = λ e. none;
     open_if = λ o. let (x, a, k) = o (row w (λ j. 0)) (constant 0 (size_positive F L)) in absurd (none x a);
-    open_only_if = λ e. let z : ◌≡◌ {A = ℕ} 0 1 = cc in absurd (omega arith);
-    key_carried = λ k e. let z : ◌≡◌ {A = ℕ} 0 1 = cc in absurd (omega arith);
-    key_possible = λ k e. let z : ◌≡◌ {A = ℕ} 0 1 = cc in absurd (omega arith);
+    open_only_if = λ e. cc;
+    key_carried = λ k e. cc;
+    key_possible = λ k e. cc;
     dealt = λ x a. absurd (none x a);
   }
 
   pub right_undecided : EveryKeyPossible F ts w held → Right F ts w held undecided
   right_undecided every = record {
     contradictory_if = λ n. let (x, a, k) = every (row w (λ j. 0)) (constant 0 (size_positive F L)) in absurd (n x a);
-    contradictory_only_if = λ e. let z : ◌≡◌ {A = ℕ} 0 1 = cc in absurd (omega arith);
+    contradictory_only_if = λ e. cc;
     open_if = λ o. refl;
     open_only_if = λ e. every;
-    key_carried = λ k e. let z : ◌≡◌ {A = ℕ} 0 1 = cc in absurd (omega arith);
-    key_possible = λ k e. let z : ◌≡◌ {A = ℕ} 0 1 = cc in absurd (omega arith);
-    dealt = λ x a. ((λ e. let z : ◌≡◌ {A = ℕ} 0 1 = cc in omega arith), λ k e. let z : ◌≡◌ {A = ℕ} 0 1 = cc in absurd (omega arith));
+    key_carried = λ k e. cc;
+    key_possible = λ k e. cc;
+    dealt = λ x a. ((λ e. cc), λ k e. cc);
   }
 
   pub right_decided : 0 < w → (k x : List ℕ) → Agreeing F ts w held x → ((y : List ℕ) → Agreeing F ts w held y → key_of ts w y ≡ k) → Right F ts w held (decided k)
   right_decided l k x a same = record {
     contradictory_if = λ n. absurd (n x a);
-    contradictory_only_if = λ e. let z : ◌≡◌ {A = ℕ} 0 1 = cc in absurd (omega arith);
+    contradictory_only_if = λ e. cc;
     open_if = λ o.
         let (y, b, i) = o (row w (λ j. 0)) (constant 0 (size_positive F L)) in
         let (z, c, j) = o (row w (λ j. 1)) (constant 1 (omega (arith, L.two_elements))) in
         let e : ◌≡◌ {A = ℕ} 0 1 = sym (getD_row w (λ j. 0) 0 l) ∙ ap (λ r. get_or r 0 0) (sym i ∙ same y b ∙ sym (same z c) ∙ j) ∙ getD_row w (λ j. 1) 0 l in
         absurd (omega arith);
-    open_only_if = λ e. let z : ◌≡◌ {A = ℕ} 0 1 = cc in absurd (omega arith);
+    open_only_if = λ e. cc;
     key_carried = λ m e y b. let i : k ≡ m = cc in same y b ∙ i;
     key_possible = λ m e. (x, a);
-    dealt = λ y b. ((λ e. let z : ◌≡◌ {A = ℕ} 0 1 = cc in omega arith), λ m e. let i : k ≡ m = cc in sym (same y b ∙ i));
+    dealt = λ y b. ((λ e. cc), λ m e. let i : k ≡ m = cc in sym (same y b ∙ i));
   }
 
   -- what the form of the last place gives
