@@ -4,7 +4,7 @@
 -- Assumes nothing.
 use Rattle.std.proofs.Common.{◌≡◌, ℕ, zero, suc, ◌<◌, ◌≤◌, Bool, true, false, eqb, ◌⊎◌, List, [], ◌∷◌, length, get_or, sym, refl, ap, ◌∙◌, subst, ap₂, inl, inr, arith}
 use native.Mathlib.Decide.{ℕ_discrete, dec_le}
-use Rattle.std.proofs.lemmas.Bool.{false≢true, false_from_ne_true}
+use Rattle.std.proofs.lemmas.Bool.{false_from_ne_true}
 use Rattle.fields.specs.Arithmetic.{Arithmetic, Laws}
 use Rattle.pools.specs.Sessions.{CardList, Call, present, withdraw, judge, count, ask_held, ask_turned, Answer, refused_by, truth, RightAnswer, RightRun, MeetsPolicy, up_to, step}
 use Rattle.pools.specs.Sessions as sessions
@@ -18,10 +18,10 @@ module _ (F : Arithmetic) (L : Laws F) (ts : List ℕ) (w : ℕ) (s : CardList) 
 
   unfoldable pub judged : (n : ℕ) (b : Bool) → eqb n w ≡ b → One (judge n)
   unfolding One
-  judged n false e = (refused_by 8, ((λ i. refl), λ i. absurd (false≢true (sym e ∙ i))), λ b h. h.0 e)
+  judged n false e = (refused_by 8, ((λ i. refl), λ i. cc), λ b h. h.0 e)
   judged n true e =
       let (v, r) = right_verdict F L ts w s.held in
-      (sessions.verdict v, ((λ i. absurd (false≢true (sym i ∙ e))), λ i. (v, refl, r)), λ b h. let (u, j, q) = h.1 e in j ∙ ap sessions.verdict (right_unique F ts w s.held u v q r))
+      (sessions.verdict v, ((λ i. cc), λ i. (v, refl, r)), λ b h. let (u, j, q) = h.1 e in j ∙ ap sessions.verdict (right_unique F ts w s.held u v q r))
 
   -- the policy is met at a level below n, or at none
   abbrev pub Met : ℕ → Type 0
@@ -41,7 +41,7 @@ module _ (F : Arithmetic) (L : Laws F) (ts : List ℕ) (w : ℕ) (s : CardList) 
   unfoldable pub counted : MeetsPolicy F ts w s.held ⊎ (MeetsPolicy F ts w s.held → ⊥) → One count
   unfolding One
   counted (inl p) = (truth true, (true, refl, (λ e. p), λ q. refl), λ b h. let (t, i, f, g) = h in i ∙ ap truth (g p))
-  counted (inr n) = (truth false, (false, refl, (λ e. absurd (false≢true e)), λ q. absurd (n q)), λ b h. let (t, i, f, g) = h in i ∙ ap truth (false_from_ne_true t (λ e. n (f e))))
+  counted (inr n) = (truth false, (false, refl, (λ e. cc), λ q. absurd (n q)), λ b h. let (t, i, f, g) = h in i ∙ ap truth (false_from_ne_true t (λ e. n (f e))))
 
   unfoldable pub one_answer : (c : Call) → (a : Answer) × RightAnswer F ts w s c a × ((b : Answer) → RightAnswer F ts w s c b → b ≡ a)
   unfolding One
