@@ -12,7 +12,7 @@ use Rattle.linear.proofs.Reading.{size_positive}
 use Rattle.sharing.specs.Cards.{Card, row, top, key_of, Elements, Every}
 use Rattle.pools.specs.Equations.{last_place}
 use Rattle.pools.specs.Verdicts.{Verdict, contradictory, undecided, decided, Agreeing, NoneAgrees, EveryKeyPossible, Right}
-use Rattle.pools.proofs.Agreement.{every_all, assigned, list_of, list_assigned, CardSolved, Solved, agreeing_solved, solved_agreeing, key_read}
+use Rattle.pools.proofs.Agreement.{every_map, Fits, assigned, list_of, list_assigned, CardSolved, Solved, agreeing_solved, solved_agreeing, key_read}
 use Rattle.pools.proofs.Equations.{dot_same}
 use Rattle.sharing.proofs.Rows.{length_row, getD_row, is_row}
 
@@ -78,27 +78,27 @@ module _ (F : Arithmetic) (L : Laws F) (ts : List ℕ) (w : ℕ) (held : List Ca
   pub never_solved : ((x : Values) → Solved F L ts w held x → ⊥) → Right F ts w held contradictory
   never_solved never = right_contradictory (λ x a. never (assigned (top ts) x) (agreeing_solved F L ts w held x a))
 
-  module _ (long : Every (λ c. length c.values ≡ w) held) where
+  module _ (fit : Every (Fits F w) held) where
     key_of_solution : (y : Values) (s : Solved F L ts w held y) (v : ℕ → ℕ) → Gives y v → key_of ts w (list_of (top ts) w y) ≡ row w v
     key_of_solution y s v g =
-        key_read F L ts w (list_of (top ts) w y) (solved_agreeing F L ts w held long y s).elements v (λ j l.
+        key_read F L ts w (list_of (top ts) w y) (solved_agreeing F L ts w held fit y s).elements v (λ j l.
         dot_same F (top ts) _ _ (assigned (top ts) (list_of (top ts) w y) j) (y j) (λ k m. refl) (λ k m. list_assigned (top ts) w y j k l m) ∙ g j l)
 
     pub every_value : ((v : ℕ → ℕ) → ((j : ℕ) → j < w → v j < F.size) → (x : Values) × Solved F L ts w held x × Gives x v) → Right F ts w held undecided
     every_value every = right_undecided (λ k h.
         let (y, s, g) = every (λ j. get_or k j 0) h.below in
-        (list_of (top ts) w y, solved_agreeing F L ts w held long y s, key_of_solution y s _ g ∙ sym (is_row k w _ h.long (λ j l. refl))))
+        (list_of (top ts) w y, solved_agreeing F L ts w held fit y s, key_of_solution y s _ g ∙ sym (is_row k w _ h.long (λ j l. refl))))
 
     pub one_value : 0 < w → (v : ℕ → ℕ) → (x : Values) × Solved F L ts w held x → ((x : Values) → Solved F L ts w held x → Gives x v) → Right F ts w held (decided (row w v))
     one_value l v some all =
         let (x, s) = some in
-        right_decided l (row w v) (list_of (top ts) w x) (solved_agreeing F L ts w held long x s) (λ y b.
+        right_decided l (row w v) (list_of (top ts) w x) (solved_agreeing F L ts w held fit x s) (λ y b.
         key_read F L ts w y b.elements v (all (assigned (top ts) y) (agreeing_solved F L ts w held y b)))
 
     -- of no words, every key is the empty one
     pub no_words : w ≤ 0 → Right F ts w held undecided
     no_words n = every_value (λ v below. (
       (λ j k. 0),
-      record { elements = λ j k l m. absurd (omega arith); cards = every_all (CardSolved F L ts w (λ j k. 0)) held (λ c j l. absurd (omega arith)) },
+      record { elements = λ j k l m. absurd (omega arith); cards = every_map (Fits F w) (CardSolved F L ts w (λ j k. 0)) held (λ c f j l. absurd (omega arith)) fit },
       λ j l. absurd (omega arith),
     ))
