@@ -10,6 +10,7 @@ use Rattle.std.proofs.Common.{◌≡◌, ℕ, zero, suc, ◌+◌, ◌-◌, ◌%�
 use mathlib.Core.List.Memᴰ
 use mathlib.Core.List.{Memᴰ as In}
 use Rattle.std.proofs.lemmas.List.{get_or_default, get_or-take, get_or-drop, length-take-le, length-drop, length-replicate}
+use Rattle.std.proofs.lemmas.Grind.{elements}
 use Rattle.std.proofs.lemmas.Bool.{false_from_ne_true}
 use Rattle.std.proofs.lemmas.List.Folds.{list_any_at, Any-from_list_any}
 use Rattle.fields.specs.Arithmetic.{Arithmetic, Laws}
@@ -21,7 +22,7 @@ use Rattle.linear.specs.Solutions.{Values, Satisfies, Solution, Decides, entry, 
 use Rattle.linear.proofs.Reading.{sum_below}
 use Rattle.sharing.specs.Cards.{Card, row, top, order, Every}
 use Rattle.sharing.proofs.Places.{zeros_at}
-use Rattle.sharing.proofs.Rows.{is_row}
+use Rattle.sharing.proofs.Rows.{getD_row, length_row}
 use Rattle.sharing.specs.Multipliers.{coefficient}
 use Rattle.pools.specs.Equations.{last_place, Says, AllSay, ReadsKey, Padded, verdict_by}
 use Rattle.std.specs.List.{list_any}
@@ -83,13 +84,10 @@ module _ (F : Arithmetic) (w : ℕ) where
 
 -- the values of an array of 16, which are zero from a place on
 front : (w : ℕ) (xs : List ℕ) → w ≤ 16 → length xs ≡ 16 → row w (entry xs) ≡ take w xs
-front w xs l e =
-    sym (is_row (take w xs) w (entry xs) (length-take-le w xs (omega arith)) (λ k m. get_or-take w xs k 0 m))
+front w xs l e = grind (arith, elements, getD_row, length_row)
 
 zeros_follow : (w : ℕ) (xs : List ℕ) → w ≤ 16 → length xs ≡ 16 → ((j : ℕ) → w ≤ j → entry xs j ≡ 0) → drop w xs ≡ replicate (16 - w) 0
-zeros_follow w xs l e h =
-    ext_get_or 0 (drop w xs) (replicate (16 - w) 0) (omega (arith, length-drop w xs, length-replicate {A = ℕ} (16 - w) 0))
-    (λ k m. get_or-drop w xs k 0 ∙ h (w + k) (omega arith) ∙ sym (zeros_at (16 - w) k))
+zeros_follow w xs l e h = grind (arith, elements)
 
 pub padded : (F : Arithmetic) (t w : ℕ) (es : List Equation) (form : Form) → w ≤ 16 → (d : Decision) → Decides F t w es form d → Padded w d
 padded F t w es form l Contradictory never = tt

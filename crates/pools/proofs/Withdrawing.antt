@@ -7,7 +7,4 @@ use Rattle.std.proofs.lemmas.Bool.{or_parts}
 
 pub others_stay : {A : Type 0} (p : A → Bool) (xs : List A) → list_any p xs ≡ false → filter (λ x. not (p x)) xs ≡ xs
 others_stay p [] e = refl
-others_stay p (x ∷ xs) e =
-    let parts = or_parts (p x) (list_any p xs) e in
-    let here = parts.0 in
-    rw here (ap (λ ys. x ∷ ys) (others_stay p xs parts.1))
+others_stay p (x ∷ xs) e = let parts = or_parts (p x) (list_any p xs) e in rw (parts.0, others_stay p xs parts.1)
