@@ -5,6 +5,5 @@ use Rattle.pools.proofs.pool.Pool.judge.Goals as goal
 pub copy_from_slice-requires : goal.copy_from_slice-requires
 copy_from_slice-requires g c =
     let pool = c.args.self.now in
-    let words : c.get.result ≡ pool.words = c.get.ensures.words ∙ ap (λ v. v.words) c.self.view_is in
     let long = right_long (g.F.Field.arithmetic pool.field) pool.policy pool.words pool.list.held c.in-Key.found c.in-Key.ensures in
-    c.if-key-get.false ∙ words ∙ sym long ∙ ap length (sym c.as_slice.ensures)
+    cc

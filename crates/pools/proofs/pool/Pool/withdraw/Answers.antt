@@ -20,10 +20,8 @@ pub invariant_of-self : goal.invariant_of-self
 invariant_of-self g c =
     let pool = c.self.inside in
     let F = g.F.Field.arithmetic pool.field in
-    subst (λ held. Orderly F pool.policy pool.words (record { held = held; turned = pool.turned })) (sym (kept g c))
+    rw (kept g c)
     (stays F pool.policy pool.words _ c.self.invariant (withdraw c.args.id))
 
 pub returns-clause-list : goal.returns-clause-list
-returns-clause-list g c =
-    ap (λ held. record { held = held; turned = c.self.inside.turned }) (kept g c)
-    ∙ ap (λ s. record { held = filter (λ h. not (eqb h.id c.args.id)) s.list.held; turned = s.list.turned }) c.self.view_is
+returns-clause-list g c = rw (← c.self.view_is) (ap (λ held. record { held = held; turned = c.self.inside.turned }) (kept g c))
