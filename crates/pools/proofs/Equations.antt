@@ -4,9 +4,9 @@
 --   dot_same          dot products of equal values are equal
 --   last_dot          the form of the last place reads it
 -- Assumes nothing.
-use Rattle.std.proofs.Common.{◌≡◌, ℕ, zero, suc, ◌+◌, ◌-◌, ◌<◌, ◌≤◌, cond, ◌≢◌, List, length, get_or, set, replicate, sym, refl, ap, ◌∙◌, ap₂, add-zero, add-suc, arith, get_or-set_other, get_or-set_same, eq-eqb, ne_eqb}
-use native.Mathlib.Decide.{ℕ_discrete}
-use lib.ListN.{length-replicate}
+use Rattle.std.proofs.Common.{◌≡◌, ℕ, zero, suc, ◌+◌, ◌-◌, ◌<◌, ◌≤◌, cond, ◌≢◌, get_or, set, replicate, sym, refl, ap, ◌∙◌, ap₂, add-zero, add-suc, arith, eq-eqb, ne_eqb}
+use Rattle.std.proofs.lemmas.Grind.{elements}
+use Rattle.std.proofs.lemmas.Bool.Decides.{nat_tests}
 use Rattle.fields.specs.Arithmetic.{Arithmetic, Laws}
 use Rattle.linear.specs.Solutions.{dot}
 use Rattle.linear.proofs.Fields.{Field}
@@ -47,13 +47,8 @@ last_else t k d = ap (λ b. cond b 1 0) (ne_eqb k (t - 1) d)
 
 -- zeros and a one at the last of t places
 pub reads_last : (n t : ℕ) → 1 ≤ t → t ≤ n → (k : ℕ) → k < t → ◌≡◌ {A = ℕ} (get_or (set (replicate n 0) (t - 1) 1) k 0) (last_place t k)
-reads_last n t l m k h =
-    let zeros : List ℕ = replicate n 0 in
-    let long : t - 1 < length zeros = omega (arith, length-replicate {A = ℕ} n 0) in
-    elim (ℕ_discrete k (t - 1)) [
-      | yes e ↦ ap (λ (i : ℕ). get_or (set zeros (t - 1) 1) i 0) e ∙ get_or-set_same zeros (t - 1) 1 0 long ∙ sym (ap (last_place t) e ∙ last_here t)
-      | no d ↦ get_or-set_other zeros (t - 1) k 1 0 d ∙ zeros_at n k ∙ sym (last_else t k d)
-    ]
+unfolding last_place
+reads_last n t l m k h = grind (arith, elements, nat_tests, zeros_at)
 
 module _ (F : Arithmetic) (L : Laws F) where
   el_derivative : (t d u : ℕ) (a : ℕ → ℕ) → d ≤ t → el F L (derivative F t d u a) ≡ field.dot (field_of F L) t (λ i. el F L (coefficient F d u i)) (λ i. el F L (a i))

@@ -6,10 +6,10 @@
 --   padded                 what follows the decided values
 --   judged                 what is decided of the key's form is the right verdict
 -- Assumes nothing.
-use Rattle.std.proofs.Common.{◌≡◌, ℕ, zero, suc, ◌+◌, ◌-◌, ◌%◌, ◌<◌, ◌≤◌, Bool, true, false, leb, List, [], ◌∷◌, ◌++◌, length, get_or, take, drop, replicate, sym, refl, ap, ◌∙◌, subst, ⊎_elim, mod-eq_of_lt, arith, ext_get_or, leb-false, leb-true}
+use Rattle.std.proofs.Common.{◌≡◌, ℕ, ◌-◌, ◌%◌, ◌<◌, ◌≤◌, Bool, true, false, leb, List, [], ◌∷◌, ◌++◌, length, get_or, take, drop, replicate, sym, refl, ap, ◌∙◌, subst, ⊎_elim, mod-eq_of_lt, arith, leb-false, leb-true}
 use mathlib.Core.List.Memᴰ
 use mathlib.Core.List.{Memᴰ as In}
-use Rattle.std.proofs.lemmas.List.{get_or_default, get_or-take, get_or-drop, length-take-le, length-drop, length-replicate}
+use Rattle.std.proofs.lemmas.List.{get_or_default}
 use Rattle.std.proofs.lemmas.Grind.{elements}
 use Rattle.std.proofs.lemmas.Bool.{false_from_ne_true}
 use Rattle.std.proofs.lemmas.List.Folds.{list_any_at, Any-from_list_any}
@@ -21,7 +21,6 @@ use Rattle.linear.specs.declared.decide.Decision.TheVariants.{Contradictory, Ope
 use Rattle.linear.specs.Solutions.{Values, Satisfies, Solution, Decides, entry, dot}
 use Rattle.linear.proofs.Reading.{sum_below}
 use Rattle.sharing.specs.Cards.{Card, row, top, order, Every}
-use Rattle.sharing.proofs.Places.{zeros_at}
 use Rattle.sharing.proofs.Rows.{getD_row, length_row}
 use Rattle.sharing.specs.Multipliers.{coefficient}
 use Rattle.pools.specs.Equations.{last_place, Says, AllSay, ReadsKey, Padded, verdict_by}

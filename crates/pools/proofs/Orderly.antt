@@ -6,7 +6,7 @@
 --   orderly_after                many calls
 --   held_cards_are_orderly       all calls from an empty pool
 -- Assumes nothing.
-use Rattle.std.proofs.Common.{◌≡◌, ℕ, zero, suc, ◌<◌, ◌≤◌, Bool, true, false, cond, not, eqb, leb, List, [], ◌∷◌, ◌++◌, length, filter, get_or, Some, None, Option, sym, refl, arith, length-append, eqb-true, leb-false}
+use Rattle.std.proofs.Common.{◌≡◌, ℕ, Bool, true, false, cond, not, eqb, List, [], ◌∷◌, ◌++◌, length, filter, Some, None, Option, sym, refl, arith, length-append, eqb-true, leb-false}
 use borrow.Author.Tests.{eqb-false, not-false}
 use Rattle.std.proofs.lemmas.Bool.{or_parts}
 use Rattle.fields.specs.Arithmetic.{Arithmetic}

@@ -4,7 +4,7 @@
 --   Running                   what a session that began with a new pool keeps after i requests
 --   run_goes_on               the same after one more
 -- Assumes nothing.
-use Rattle.std.proofs.Common.{◌≡◌, ℕ, ◌+◌, ◌<◌, List, [], ◌∷◌, ◌++◌, Result, map, length, get_or, take, set, sym, refl, ap, ◌∙◌, subst}
+use Rattle.std.proofs.Common.{◌≡◌, ℕ, ◌+◌, ◌<◌, List, [], ◌∷◌, ◌++◌, Result, map, length, get_or, take, set, refl, ap, ◌∙◌, subst}
 use Rattle.std.proofs.lemmas.List.{take_more_set, map_push, map_more}
 use Rattle.fields.specs.Arithmetic.{Arithmetic}
 use Rattle.pools.specs.Pools.{Seen, Frame, Steps, Answers}

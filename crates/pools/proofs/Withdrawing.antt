@@ -1,7 +1,7 @@
 -- Cards that stay when others are taken out.
 --   others_stay    where no member meets a test, all of the others are all
 -- Assumes nothing.
-use Rattle.std.proofs.Common.{◌≡◌, Bool, false, not, List, [], ◌∷◌, filter, refl, ap}
+use Rattle.std.proofs.Common.{◌≡◌, Bool, false, not, List, [], ◌∷◌, filter, refl}
 use Rattle.std.specs.List.{list_any}
 use Rattle.std.proofs.lemmas.Bool.{or_parts}
 

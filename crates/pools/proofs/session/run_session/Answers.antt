@@ -1,7 +1,5 @@
-use Rattle.std.proofs.Common.{◌≡◌, ℕ, ◌+◌, min, List, map, length, take, drop, set, sym, refl, ap, ◌∙◌, subst, arith}
+use Rattle.std.proofs.Common.{arith}
 use Rattle.std.proofs.lemmas.Grind.{common_steps}
-use Rattle.pools.specs.Requests.{called, replied}
-use Rattle.pools.specs.Sessions.{RightRun, none_yet}
 use Rattle.pools.proofs.Running.{run_goes_on}
 use Rattle.pools.proofs.session.run_session.Goals as goal
 

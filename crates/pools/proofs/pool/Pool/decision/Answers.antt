@@ -1,8 +1,6 @@
-use Rattle.std.proofs.Common.{◌≡◌, ℕ, ◌<◌, ◌≤◌, length, ◌∙◌, ap, subst, arith}
-use Rattle.linear.specs.Solutions.{Decides}
+use Rattle.std.proofs.Common.{◌<◌, ◌≤◌, arith}
 use Rattle.sharing.specs.Cards.{top}
-use Rattle.pools.specs.Equations.{ReadsKey}
-use Rattle.pools.specs.Sessions.{Accepted, Orderly}
+use Rattle.pools.specs.Sessions.{Accepted}
 use Rattle.pools.proofs.Agreement.{every_map, Fits}
 use Rattle.pools.proofs.Holding.{judged, padded}
 use Rattle.pools.proofs.pool.Pool.decision.Goals as goal

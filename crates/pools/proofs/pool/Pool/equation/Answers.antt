@@ -1,9 +1,5 @@
-use Rattle.std.proofs.Common.{◌≡◌, ℕ, ◌+◌, ◌-◌, ◌<◌, List, ◌++◌, length, drop, replicate, get_or, sym, ap, ◌∙◌, subst, arith}
-use native.Mathlib.Decide.{dec_lt}
+use Rattle.std.proofs.Common.{◌≡◌, ℕ, List, ◌++◌, drop, replicate, get_or, ap, ◌∙◌, arith}
 use lib.ListN.{get_or-eq_default}
-use Rattle.std.proofs.lemmas.List.{get_or_append_left, get_or-append-add, get_or-drop}
-use Rattle.sharing.specs.Cards.{Card, top, order}
-use Rattle.sharing.specs.Multipliers.{coefficient}
 use Rattle.std.proofs.lemmas.Grind.{elements}
 use Rattle.sharing.proofs.Places.{zeros_at}
 use Rattle.pools.proofs.pool.Pool.equation.Goals as goal

@@ -1,4 +1,3 @@
-use Rattle.std.proofs.Common.{◌≡◌, length, sym, ap, ◌∙◌}
 use Rattle.pools.proofs.Verdicts.{right_long}
 use Rattle.pools.proofs.pool.Pool.judge.Goals as goal
 

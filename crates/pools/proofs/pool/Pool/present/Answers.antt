@@ -1,6 +1,5 @@
-use Rattle.std.proofs.Common.{◌≡◌, [], ◌∷◌, ◌++◌, None, sym, ap, ◌∙◌, subst}
 use Rattle.sharing.specs.Cards.{Card}
-use Rattle.pools.specs.Sessions.{CardList, Orderly, present, presented, refuses_card}
+use Rattle.pools.specs.Sessions.{CardList, present}
 use Rattle.pools.proofs.Orderly.{stays}
 use Rattle.pools.proofs.pool.Pool.present.Goals as goal
 

@@ -1,6 +1,6 @@
-use Rattle.std.proofs.Common.{◌≡◌, false, rules, not, eqb, filter, sym, ap, ◌∙◌, subst}
+use Rattle.std.proofs.Common.{◌≡◌, false, rules, not, eqb, filter, sym, ap}
 use Rattle.std.specs.List.{list_any}
-use Rattle.pools.specs.Sessions.{Orderly, withdraw}
+use Rattle.pools.specs.Sessions.{withdraw}
 use Rattle.arrayvec.proofs.ArrayVecLemmas.{filter-from_retain}
 use Rattle.pools.proofs.Orderly.{stays}
 use Rattle.pools.proofs.Withdrawing.{others_stay}
