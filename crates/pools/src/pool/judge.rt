@@ -82,6 +82,7 @@ impl<F: Field> Pool<F> {
     }
 
     // Says what the held cards tell of the key, and writes it into the buffer where there is one.
+    #[tactic(auto, using(crate::proofs::Verdicts::right_long))]
     pub fn judge(&self, key: &mut [u32]) -> Result<Judgement<()>, Refusal>
         ensures answer { Answers F.Field.arithmetic self.now (judge (length key.old)) (told result key.new) }
         ensures buffer { Kept result key.old key.new }

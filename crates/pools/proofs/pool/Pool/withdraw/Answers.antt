@@ -1,5 +1,4 @@
-use Rattle.std.proofs.Common.{◌≡◌, false, rules, not, eqb, filter, sym, ap}
-use Rattle.std.specs.List.{list_any}
+use Rattle.std.proofs.Common.{◌≡◌, rules, not, eqb, filter, sym, ap}
 use Rattle.pools.specs.Sessions.{withdraw}
 use Rattle.arrayvec.proofs.ArrayVecLemmas.{filter-from_retain}
 use Rattle.pools.proofs.Orderly.{stays}
@@ -10,8 +9,7 @@ use Rattle.pools.proofs.pool.Pool.withdraw.Goals as goal
 pub returns-then-not-holds-clause-list : goal.returns-then-not-holds-clause-list
 returns-then-not-holds-clause-list g c =
     let s = c.args.self.now.list in
-    let none : list_any (λ h. eqb h.id c.args.id) s.held ≡ false = sym c.if-not-holds.ensures in
-    ap (λ held. record { held = held; turned = s.turned }) (sym (others_stay (λ h. eqb h.id c.args.id) s.held none))
+    ap (λ held. record { held = held; turned = s.turned }) (sym (others_stay (λ h. eqb h.id c.args.id) s.held (sym c.if-not-holds.ensures)))
 
 kept : (g : given.Over) (c : goal.After-retain g) → c.retain.new.self.items ≡ filter (λ h. not (eqb h.id c.args.id)) c.self.inside.cards.items
 kept g c = filter-from_retain _ (λ h. not (eqb h.id c.args.id)) _ (λ x b f' y called. search rules) _ _ c.retain.ensures.filtered
