@@ -23,7 +23,7 @@ use Rattle.trays.specs.declared.reader.TrayReader.{TrayReader}
 use Rattle.reports.specs.declared.report.RefusedCard.{RefusedCard}
 use Rattle.reports.proofs.Said.{card_said}
 use Rattle.trays.proofs.Numbers.{length_numbers}
-use Rattle.reports.proofs.Openings.{no_fault, impossible}
+use Rattle.reports.proofs.Openings.{no_fault}
 
 -- of these cards with this ending the first i are presented, and the others are to come
 pub record SoFar (F : Arithmetic) (ts : List ℕ) (w n i : ℕ) (s : CardList) (refused : List RefusedCard) (t : TrayReader) (ps : List Placed) (e : Ending) : Type 0 where
@@ -55,10 +55,10 @@ told_held k at None h = refl
 told_held k at (Some n) h = cc
 
 a_card_is : (i : Item) (bytes : List ℕ) (at : ℕ) → as_answer i ≡ gave_at (card bytes) at → (x : Bor (List ℕ)) × (o : ℕ) × (i ≡ item.Card x o)
-a_card_is (item.Field n) bytes at h = impossible (cc)
-a_card_is (item.Thresholds x o) bytes at h = impossible (cc)
-a_card_is (item.Words n) bytes at h = impossible (cc)
-a_card_is (item.CardCount n) bytes at h = impossible (cc)
+a_card_is (item.Field n) bytes at h = cc
+a_card_is (item.Thresholds x o) bytes at h = cc
+a_card_is (item.Words n) bytes at h = cc
+a_card_is (item.CardCount n) bytes at h = cc
 a_card_is (item.Card x o) bytes at h = (x, o, refl)
 
 pub card_next : (i : Item) {w m at : ℕ} {bytes : List ℕ} {parts : List Placed} {e : Ending} → Reads (at_cards w m) at bytes parts e → 1 ≤ m → as_answer i ≡ due parts e → (x : Bor (List ℕ)) × (o : ℕ) × (i ≡ item.Card x o)
@@ -68,19 +68,19 @@ card_next i {at} (then (a_card {bytes} h) k r) l said = a_card_is i bytes at sai
 
 -- where no card is to come there is no item
 pub end_next : (i : Item) {w m at : ℕ} {bytes : List ℕ} {parts : List Placed} {e : Ending} → Reads (at_cards w m) at bytes parts e → m ≡ 0 → as_answer i ≡ due parts e → ⊥
-end_next (item.Field n) done l said = impossible (cc)
-end_next (item.Thresholds x o) done l said = impossible (cc)
-end_next (item.Words n) done l said = impossible (cc)
-end_next (item.CardCount n) done l said = impossible (cc)
-end_next (item.Card x o) done l said = impossible (cc)
+end_next (item.Field n) done l said = cc
+end_next (item.Thresholds x o) done l said = cc
+end_next (item.Words n) done l said = cc
+end_next (item.CardCount n) done l said = cc
+end_next (item.Card x o) done l said = cc
 end_next i (broken {at} {n} w) l said = absurd (no_fault i n at said)
 end_next i (then (a_card h) k r) l said = absurd (omega arith)
 
 -- a card that is to come has its length, and the others come after it
 pub card_first : {w m at : ℕ} {bytes : List ℕ} {parts : List Placed} {e : Ending} (c : List ℕ) (o : ℕ) (qs : List Placed) → Reads (at_cards w m) at bytes parts e → parts ≡ record { part = card c; offset = o } ∷ qs
     → (length c ≡ card_size w) × ToCome w (m - 1) qs e
-card_first c o qs done h = impossible (cc)
-card_first c o qs (broken w) h = impossible (cc)
+card_first c o qs done h = cc
+card_first c o qs (broken w) h = cc
 card_first {e} c o qs (then {at} {rest = more} {parts = ps} (a_card {w} {n} {bytes = b} long) k r) h =
     let head : ◌≡◌ {A = Placed} (record { part = card b; offset = at }) (record { part = card c; offset = o }) = cc in
     let part_is : card b ≡ card c = ap (λ p. p.part) head in

@@ -9,21 +9,17 @@ use Rattle.trays.specs.declared.reader.TrayReader.{TrayReader}
 use Rattle.trays.specs.Layout.{Part, field, thresholds, words, card_count, card, Ending, Placed}
 use Rattle.trays.specs.Answers.{Answer, gave, gave_at, over, as_answer, as_ending, due, due_part, rest, Reading, NextSaid}
 
-abbrev parts_said : Answer → ℕ
-parts_said (gave p) = 1
-parts_said (gave_at p o) = 1
-parts_said (over e) = 0
-
-part_due : (p : Part) (at : ℕ) → parts_said (due_part p at) ≡ 1
-part_due (field b) at = refl
-part_due (thresholds ts) at = refl
-part_due (words w) at = refl
-part_due (card_count n) at = refl
-part_due (card bytes) at = refl
+-- an ending is no part
+pub no_part : (p : Part) (at : ℕ) (e : Ending) → over e ≡ due_part p at → ⊥
+no_part (field b) at e h = cc
+no_part (thresholds ts) at e h = cc
+no_part (words w) at e h = cc
+no_part (card_count n) at e h = cc
+no_part (card bytes) at e h = cc
 
 over_due : (parts : List Placed) (e f : Ending) → over e ≡ due parts f → (parts ≡ []) × (f ≡ e)
 over_due [] e f h = (refl, cc)
-over_due (p ∷ ps) e f h = absurd (omega (arith, part_due p.part p.offset, ap parts_said h))
+over_due (p ∷ ps) e f h = absurd (no_part p.part p.offset e h)
 
 card_is : (p : Part) (at : ℕ) (c : List ℕ) (o : ℕ) → gave_at (card c) o ≡ due_part p at → (p ≡ card c) × (at ≡ o)
 card_is (field b) at c o h = (cc, cc)

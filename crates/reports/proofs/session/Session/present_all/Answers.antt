@@ -4,9 +4,8 @@ use Rattle.trays.specs.Answers.{answer}
 use Rattle.trays.specs.Layout.{card_size}
 use Rattle.reports.specs.Runs.{card_in, told, turned_by}
 use Rattle.reports.proofs.Cards.{card_next, end_next, card_first, so_far_none, so_far_more}
-use Rattle.reports.proofs.Openings.{nothing, to_come}
+use Rattle.reports.proofs.Openings.{nothing, part_to_come, at_one}
 use Rattle.reports.proofs.Said.{card_said}
-use Rattle.trays.proofs.Orders.{reader_one_way}
 use Rattle.reports.proofs.session.Session.present_all.Goals as goal
 
 pub loop-i-init : goal.loop-i-init
@@ -20,23 +19,20 @@ loop-i-init g c =
 
 pub part-requires : goal.part-requires
 part-requires g c =
-    let all = reader_one_way c.args.reader.now in
-    let so = c.loop-i.invariant.so_far all.0 all.1 all.2 in
-    to_come c.loop-i.reader (λ w e. let none : c.args.cards - c.loop-i.i ≡ 0 = cc in omega (arith, c.loop-i-test.true, none)) so.left so.to_come.2
+    let (ps, e, so) = at_one c.args.reader.now c.loop-i.invariant.so_far in
+    part_to_come c.loop-i.reader (λ w e. let none : c.args.cards - c.loop-i.i ≡ 0 = cc in omega (arith, c.loop-i-test.true, none)) so.left so.to_come.2
 
 pub unreachable-requires : goal.unreachable-requires
 unreachable-requires g c =
-    let all = reader_one_way c.args.reader.now in
-    let so = c.loop-i.invariant.so_far all.0 all.1 all.2 in
+    let (ps, e, so) = at_one c.args.reader.now c.loop-i.invariant.so_far in
     let some : 1 ≤ c.args.cards - c.loop-i.i = omega (arith, c.loop-i-test.true) in
-    let found = card_next c.in_ok-bytes.field-0 so.to_come.2 some (c.in_ok-bytes.ensures.reads so.others all.1 so.left).0 in
+    let found = card_next c.in_ok-bytes.field-0 so.to_come.2 some (c.in_ok-bytes.ensures.reads so.others e so.left).0 in
     c.in_default.not-Card found.0 found.1 found.2
 
 pub present-requires : goal.present-requires
 present-requires g c =
-    let all = reader_one_way c.args.reader.now in
-    let so = c.loop-i.invariant.so_far all.0 all.1 all.2 in
-    let is = card_said c.loop-i.reader c.part.new.reader c.in_ok-bytes.field-0 c.in-Card.bytes c.in-Card.offset c.in-Card.is c.in_ok-bytes.ensures.reads so.others all.1 so.left in
+    let (ps, e, so) = at_one c.args.reader.now c.loop-i.invariant.so_far in
+    let is = card_said c.loop-i.reader c.part.new.reader c.in_ok-bytes.field-0 c.in-Card.bytes c.in-Card.offset c.in-Card.is c.in_ok-bytes.ensures.reads so.others e so.left in
     record {
       long = (card_first c.in-Card.bytes.now c.in-Card.offset _ so.to_come.2 is).0 ∙ ap card_size (sym c.loop-i.invariant.frame.2);
       room = (omega (arith, c.loop-i.invariant.few, c.loop-i-test.true, c.ranges.cards), omega (arith, c.loop-i-test.true, c.ranges.cards));
@@ -72,8 +68,7 @@ loop-i-preserved g c =
 
 pub unreachable-requires-in_default-2 : goal.unreachable-requires-in_default-2
 unreachable-requires-in_default-2 g c =
-    let all = reader_one_way c.args.reader.now in
-    let so = c.loop-i.invariant.so_far all.0 all.1 all.2 in
+    let (ps, e, so) = at_one c.args.reader.now c.loop-i.invariant.so_far in
     let none : c.args.cards - c.loop-i.i ≡ 0 = omega (arith, c.loop-i-test.false) in
-    let said = (c.in_ok-next.ensures.reads so.others all.1 so.left).0 in
-    c.in_default-2.not-None (nothing c.in_ok-next.field-0 (λ i e. end_next i so.to_come.2 none (sym (ap (λ o. answer (Ok o)) e) ∙ said)))
+    let said = (c.in_ok-next.ensures.reads so.others e so.left).0 in
+    c.in_default-2.not-None (nothing c.in_ok-next.field-0 (λ i is. end_next i so.to_come.2 none (sym (ap (λ o. answer (Ok o)) is) ∙ said)))
