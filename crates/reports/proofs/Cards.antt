@@ -21,6 +21,7 @@ use Rattle.trays.specs.declared.item.Item.{Item}
 use Rattle.trays.specs.declared.item.Item.TheVariants as item
 use Rattle.trays.specs.declared.reader.TrayReader.{TrayReader}
 use Rattle.reports.specs.declared.report.RefusedCard.{RefusedCard}
+use Rattle.pools.proofs.Running.{after_push}
 use Rattle.reports.proofs.Said.{card_said}
 use Rattle.trays.proofs.Numbers.{length_numbers}
 use Rattle.reports.proofs.Openings.{no_fault}
@@ -46,13 +47,13 @@ presented_is w n bytes level id values wide says =
     ∙ ap (λ v. record { level = level_in bytes; id = id_in bytes; values = v }) front
     ∙ ap (λ m. card_in m bytes) wide
 
-pub told_refused : (k at : ℕ) (o : Option ℕ) (r : Refusal) → refused_by (number r) ≡ answer_of o → told k at o ≡ record { ordinal = k; offset = at; reason = number r } ∷ []
-told_refused k at None r h = cc
-told_refused k at (Some n) r h = let same : n ≡ number r = cc in ap (λ x. record { ordinal = k; offset = at; reason = x } ∷ []) same
+pub told_refused : (k at : ℕ) {o p : Option ℕ} (r : Refusal) → refused_by (number r) ≡ answer_of o → o ≡ p → told k at p ≡ record { ordinal = k; offset = at; reason = number r } ∷ []
+told_refused k at {p = None} r h same = cc
+told_refused k at {p = Some n} r h same = let is : n ≡ number r = cc in ap (λ x. record { ordinal = k; offset = at; reason = x } ∷ []) is
 
-pub told_held : (k at : ℕ) (o : Option ℕ) → held_well ≡ answer_of o → told k at o ≡ []
-told_held k at None h = refl
-told_held k at (Some n) h = cc
+pub told_held : (k at : ℕ) {o p : Option ℕ} → held_well ≡ answer_of o → o ≡ p → told k at p ≡ []
+told_held k at {p = None} h same = refl
+told_held k at {p = Some n} h same = cc
 
 a_card_is : (i : Item) (bytes : List ℕ) (at : ℕ) → as_answer i ≡ gave_at (card bytes) at → (x : Bor (List ℕ)) × (o : ℕ) × (i ≡ item.Card x o)
 a_card_is (item.Field n) bytes at h = cc
@@ -77,11 +78,11 @@ end_next i (broken {at} {n} w) l said = absurd (no_fault i n at said)
 end_next i (then (a_card h) k r) l said = absurd (omega arith)
 
 -- a card that is to come has its length, and the others come after it
-pub card_first : {w m at : ℕ} {bytes : List ℕ} {parts : List Placed} {e : Ending} (c : List ℕ) (o : ℕ) (qs : List Placed) → Reads (at_cards w m) at bytes parts e → parts ≡ record { part = card c; offset = o } ∷ qs
+pub card_first : {w m at : ℕ} {bytes : List ℕ} {parts : List Placed} {e : Ending} {c : List ℕ} {o : ℕ} {qs : List Placed} → Reads (at_cards w m) at bytes parts e → parts ≡ record { part = card c; offset = o } ∷ qs
     → (length c ≡ card_size w) × ToCome w (m - 1) qs e
-card_first c o qs done h = cc
-card_first c o qs (broken w) h = cc
-card_first {e} c o qs (then {at} {rest = more} {parts = ps} (a_card {w} {n} {bytes = b} long) k r) h =
+card_first done h = cc
+card_first (broken w) h = cc
+card_first {e} {c} {o} {qs} (then {at} {rest = more} {parts = ps} (a_card {w} {n} {bytes = b} long) k r) h =
     let head : ◌≡◌ {A = Placed} (record { part = card b; offset = at }) (record { part = card c; offset = o }) = cc in
     let part_is : card b ≡ card c = ap (λ p. p.part) head in
     let same : b ≡ c = cc in
@@ -92,13 +93,9 @@ card_first {e} c o qs (then {at} {rest = more} {parts = ps} (a_card {w} {n} {byt
     )
 
 module _ (F : Arithmetic) (ts : List ℕ) (w : ℕ) where
-  after_push : (s : CardList) (calls : List Call) (c : Call) → after F ts w s (calls ++ c ∷ []) ≡ step F ts w (after F ts w s calls) c
-  after_push s [] c = refl
-  after_push s (d ∷ calls) c = after_push (step F ts w s d) calls c
-
-  pub so_far_none : (n : ℕ) (s : CardList) (refused : List RefusedCard) (t : TrayReader) (ps : List Placed) (e : Ending) → s ≡ none_yet → refused ≡ [] → Reading t ps e → ToCome w n ps e
+  pub so_far_none : {n : ℕ} {s : CardList} {refused : List RefusedCard} {t : TrayReader} {ps : List Placed} {e : Ending} → s ≡ none_yet → refused ≡ [] → Reading t ps e → ToCome w n ps e
       → SoFar F ts w n 0 s refused t ps e
-  so_far_none n s refused t ps e fresh none r to_come =
+  so_far_none {n} {ps} {e} fresh none r to_come =
       let all : n ≡ n - 0 = omega arith in
       record {
         before = [];
@@ -111,18 +108,18 @@ module _ (F : Arithmetic) (ts : List ℕ) (w : ℕ) where
         refusals = ap (λ l. turned_by l ++ turned_from F ts w [] ps) none;
       }
 
-  pub so_far_more : (n i : ℕ) (s s' : CardList) (r r' : List RefusedCard) (t t' : TrayReader) (ps : List Placed) (e : Ending) (x : Bor (List ℕ)) (o : ℕ) (it : Item)
+  pub so_far_more : {n i : ℕ} {s s' : CardList} {r r' : List RefusedCard} {t t' : TrayReader} {ps : List Placed} {e : Ending} {x : Bor (List ℕ)} {o : ℕ} {it : Item}
       → it ≡ item.Card x o → NextSaid t (Ok (Some it)) t'
       → s' ≡ step F ts w s (present (card_in w x.now))
       → turned_by r' ≡ turned_by r ++ told (i + 1) o (refuses_card F ts w s.held (card_in w x.now))
       → SoFar F ts w n i s r t ps e → SoFar F ts w n (i + 1) s' r' t' ps e
-  so_far_more n i s s' r r' t t' ps e x o it h said list refusals so =
+  so_far_more {n} {i} {s} {r} {t} {t'} {e} {x} {o} {it} h said list refusals so =
       let c = card_in w x.now in
       let p : Placed = record { part = card x.now; offset = o } in
       let before = so.before in
       let qs = rest so.others in
-      let is = card_said t t' it x o h said so.others e so.left in
-      let first = card_first x.now o qs so.to_come.2 is in
+      let is = card_said t t' h said so.others e so.left in
+      let first = card_first so.to_come.2 is in
       let less : n - i - 1 ≡ n - (i + 1) = omega arith in
       let f : Placed → Call = λ q. present (card_in w (written q.part)) in
       record {
@@ -132,7 +129,7 @@ module _ (F : Arithmetic) (ts : List ℕ) (w : ℕ) where
         counted = length-append before (p ∷ []) ∙ ap (λ k. k + 1) so.counted;
         left = (said so.others e so.left).1;
         to_come = subst (λ m. ToCome w m qs e) less first.1;
-        list = list ∙ ap (λ l. step F ts w l (present c)) so.list ∙ sym (after_push none_yet (map f before) (present c)) ∙ ap (after F ts w none_yet) (sym (map_push f before p));
+        list = list ∙ ap (λ l. step F ts w l (present c)) so.list ∙ sym (after_push F ts w none_yet (map f before) (present c)) ∙ ap (after F ts w none_yet) (sym (map_push f before p));
         refusals =
             ap (λ l. l ++ turned_from F ts w (before ++ p ∷ []) qs) (refusals ∙ ap (λ k. turned_by r ++ told (k + 1) o (refuses_card F ts w s.held c)) (sym so.counted) ∙ ap (λ l. turned_by r ++ told (length before + 1) o (refuses_card F ts w l.held c)) so.list)
             ∙ append_assoc (turned_by r) (told (length before + 1) o (refuses_card F ts w (list_after F ts w before).held c)) (turned_from F ts w (before ++ p ∷ []) qs)

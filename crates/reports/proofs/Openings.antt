@@ -14,14 +14,14 @@
 --   early                a fault before the card count stops the run
 --   misfit               so do thresholds that make no policy
 --   opens                the parts before the cards
-use Rattle.std.proofs.Common.{◌≡◌, ℕ, ◌+◌, ◌<◌, ◌≤◌, List, [], ◌∷◌, ◌++◌, length, Some, None, Ok, Err, Option, sym, refl, ap, ◌∙◌, subst, arith, Bor}
+use Rattle.std.proofs.Common.{◌≡◌, ℕ, ◌+◌, ◌<◌, ◌≤◌, List, [], ◌∷◌, ◌++◌, length, Some, None, Ok, Err, Option, sym, refl, ap, ◌∙◌, Bor}
 use Rattle.std.proofs.lemmas.List.{append_assoc, append-nil}
 use Rattle.reports.proofs.Said.{no_part, fault_said}
 use Rattle.sharing.specs.Cards.{Every}
 use Rattle.sharing.specs.Refusals.{number, refuses_policy}
-use Rattle.trays.specs.Answers.{gave, gave_at, over, as_answer, as_ending, due_part, due, rest, Reading, NextSaid}
-use Rattle.trays.specs.Layout.{Part, field, thresholds, words, card_count, card, written, at_field, at_thresholds, at_words, at_count, at_cards, Next, Follows, a_field, some_thresholds, some_words, a_count, Ending, ended, fault, Placed, Reads, done, broken, then}
-use Rattle.reports.specs.Runs.{StopsEarly, no_policy, no_count, Stops, opening, refuses}
+use Rattle.trays.specs.Answers.{over, as_answer, due_part, due, rest, Reading, NextSaid}
+use Rattle.trays.specs.Layout.{Part, field, thresholds, words, card_count, written, at_field, at_thresholds, at_words, at_count, at_cards, Next, Follows, a_field, some_thresholds, some_words, a_count, Ending, ended, fault, Placed, Reads, done, broken, then}
+use Rattle.reports.specs.Runs.{StopsEarly, no_policy, no_count, Stops, refuses}
 use Rattle.reports.specs.Steps.{Whole, PartToCome}
 use Rattle.trays.specs.Fields.{field_number}
 use Rattle.trays.specs.declared.field.TrayField.{TrayField}
@@ -32,7 +32,6 @@ use Rattle.trays.specs.declared.reader.TrayReader.{TrayReader}
 use Rattle.reports.specs.declared.report.Layer.TheVariants as layer
 use Rattle.reports.specs.declared.report.Stop.{Stop}
 use Rattle.trays.proofs.Orders.{reader_one_way}
-
 
 abbrev pub at_place : Part → ℕ → Placed
 at_place p at = record { part = p; offset = at }

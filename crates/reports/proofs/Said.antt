@@ -1,13 +1,13 @@
 -- What a request says of what was to come.
 --   card_said     it gave a card
 --   fault_said    it gave a fault
-use Rattle.std.proofs.Common.{◌≡◌, ℕ, List, [], ◌∷◌, Some, Ok, Err, sym, refl, ap, ◌∙◌, arith, Bor}
+use Rattle.std.proofs.Common.{◌≡◌, ℕ, List, [], ◌∷◌, Some, Ok, Err, sym, refl, ap, ◌∙◌, Bor}
 use Rattle.trays.specs.declared.item.Item.{Item}
 use Rattle.trays.specs.declared.item.Item.TheVariants as item
 use Rattle.trays.specs.declared.item.Fault.{Fault}
 use Rattle.trays.specs.declared.reader.TrayReader.{TrayReader}
 use Rattle.trays.specs.Layout.{Part, field, thresholds, words, card_count, card, Ending, Placed}
-use Rattle.trays.specs.Answers.{Answer, gave, gave_at, over, as_answer, as_ending, due, due_part, rest, Reading, NextSaid}
+use Rattle.trays.specs.Answers.{gave_at, over, as_answer, as_ending, due, due_part, rest, Reading, NextSaid}
 
 -- an ending is no part
 pub no_part : (p : Part) (at : ℕ) (e : Ending) → over e ≡ due_part p at → ⊥
@@ -35,9 +35,9 @@ card_due (p ∷ ps) e c o h =
     ap (λ i. record { part = i; offset = p.offset } ∷ ps) is.0 ∙ ap (λ at. record { part = card c; offset = at } ∷ ps) is.1
 
 module _ (before after : TrayReader) where
-  pub card_said : (i : Item) (x : Bor (List ℕ)) (o : ℕ) → i ≡ item.Card x o → NextSaid before (Ok (Some i)) after → (parts : List Placed) (e : Ending) → Reading before parts e
+  pub card_said : {i : Item} {x : Bor (List ℕ)} {o : ℕ} → i ≡ item.Card x o → NextSaid before (Ok (Some i)) after → (parts : List Placed) (e : Ending) → Reading before parts e
       → parts ≡ record { part = card x.now; offset = o } ∷ rest parts
-  card_said i x o h said parts e r = card_due parts e x.now o (sym (ap as_answer h) ∙ (said parts e r).0)
+  card_said {x} {o} h said parts e r = card_due parts e x.now o (sym (ap as_answer h) ∙ (said parts e r).0)
 
   pub fault_said : (f : Fault) → NextSaid before (Err f) after → (parts : List Placed) (e : Ending) → Reading before parts e → (parts ≡ []) × (e ≡ as_ending f)
   fault_said f said parts e r = over_due parts (as_ending f) e (said parts e r).0

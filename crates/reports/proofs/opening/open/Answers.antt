@@ -1,6 +1,5 @@
-use Rattle.std.proofs.Common.{◌≡◌, ◌+◌, ◌-◌, ◌≤◌, [], ◌∷◌, length, ap, ◌∙◌, sym, refl, arith}
+use Rattle.std.proofs.Common.{◌≡◌, ◌+◌, ◌-◌, ◌≤◌, [], ◌∷◌, length, refl, arith}
 use Rattle.std.proofs.lemmas.Result.{err_from_is_err_and}
-use Rattle.sharing.specs.Refusals.{refuses_policy}
 use Rattle.trays.specs.Fields.{field_number}
 use Rattle.trays.specs.Layout.{field, thresholds, words, written, at_words, at_count}
 use Rattle.reports.proofs.Openings.{at_place, ReadSoFar, begun, left_over, still_to_come, to_come, early, misfit, a_field_there, field_read, thresholds_there, thresholds_read, words_there, words_read, count_there, count_read}
