@@ -4,7 +4,7 @@
 --   told_refused, told_held      what is told of a card that is refused, and of one that is not
 --   card_next, end_next          where cards are to come an item is one, and where none is there is no item
 --   card_first                   a card that is to come has its length, and the others come after it
---   so_far_none, so_far_more     none is presented, and one more
+--   so_far_more                  one more is presented
 use Rattle.std.proofs.Common.{◌≡◌, ℕ, suc, ◌+◌, ◌-◌, ◌≤◌, List, [], ◌∷◌, ◌++◌, map, length, take, drop, replicate, Some, None, Ok, Option, sym, refl, ap, ◌∙◌, subst, arith, Bor}
 use Rattle.std.proofs.lemmas.List.{append_assoc, length-append, map_push, take_at}
 use Rattle.fields.specs.Arithmetic.{Arithmetic}
@@ -93,21 +93,6 @@ card_first {e} {c} {o} {qs} (then {at} {rest = more} {parts = ps} (a_card {w} {n
     )
 
 module _ (F : Arithmetic) (ts : List ℕ) (w : ℕ) where
-  pub so_far_none : {n : ℕ} {s : CardList} {refused : List RefusedCard} {t : TrayReader} {ps : List Placed} {e : Ending} → s ≡ none_yet → refused ≡ [] → Reading t ps e → ToCome w n ps e
-      → SoFar F ts w n 0 s refused t ps e
-  so_far_none {n} {ps} {e} fresh none r to_come =
-      let all : n ≡ n - 0 = omega arith in
-      record {
-        before = [];
-        others = ps;
-        split = refl;
-        counted = refl;
-        left = r;
-        to_come = subst (λ m. ToCome w m ps e) all to_come;
-        list = fresh;
-        refusals = ap (λ l. turned_by l ++ turned_from F ts w [] ps) none;
-      }
-
   pub so_far_more : {n i : ℕ} {s s' : CardList} {r r' : List RefusedCard} {t t' : TrayReader} {ps : List Placed} {e : Ending} {x : Bor (List ℕ)} {o : ℕ} {it : Item}
       → it ≡ item.Card x o → NextSaid t (Ok (Some it)) t'
       → s' ≡ step F ts w s (present (card_in w x.now))

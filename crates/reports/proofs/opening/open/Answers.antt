@@ -6,13 +6,10 @@ use Rattle.reports.proofs.Openings.{at_place, ReadSoFar, begun, left_over, still
 use Rattle.reports.proofs.opening.open.Goals as goal
 use Rattle.reports.proofs.opening.open.Goals.{In-Thresholds, In-Words}
 
-pub part-requires : goal.part-requires
-part-requires c = to_come (begun c.args.reader.now c.requires) (λ w e. cc)
-
-pub returns-in_err-field : goal.returns-in_err-field
-returns-in_err-field c =
+pub returns-in_err-field-clause-parts : goal.returns-in_err-field-clause-parts
+returns-in_err-field-clause-parts c =
     let p = err_from_is_err_and c.from_residual.result c.from_residual.ensures.1 in
-    rw p.1 (record { parts = early (begun c.args.reader.now c.requires) c.part.new.reader c.in_err-field.field-0.0 c.in_err-field.ensures.reads (omega arith) tt p.0 p.2; ready = tt })
+    rw p.1 (early (begun c.args.reader.now c.requires) c.part.new.reader c.in_err-field.field-0.0 c.in_err-field.ensures.reads (omega arith) tt p.0 p.2)
 
 pub unreachable-requires : goal.unreachable-requires
 unreachable-requires c =
@@ -23,11 +20,11 @@ pub part-requires-2 : goal.part-requires-2
 part-requires-2 c =
     to_come (field_read c.part.new.reader c.in_ok-field.field-0 c.in_ok-field.ensures.reads (begun c.args.reader.now c.requires) c.in-Field.field c.in-Field.is) (λ w e. cc)
 
-pub returns-in_err-bytes : goal.returns-in_err-bytes
-returns-in_err-bytes c =
+pub returns-in_err-bytes-clause-parts : goal.returns-in_err-bytes-clause-parts
+returns-in_err-bytes-clause-parts c =
     let f = field_read c.part.new.reader c.in_ok-field.field-0 c.in_ok-field.ensures.reads (begun c.args.reader.now c.requires) c.in-Field.field c.in-Field.is in
     let p = err_from_is_err_and c.from_residual-in_err-bytes.result c.from_residual-in_err-bytes.ensures.1 in
-    rw p.1 (record { parts = early f c.part-2.new.reader c.in_err-bytes.field-0.0 c.in_err-bytes.ensures.reads (omega arith) (refl, tt) p.0 p.2; ready = tt })
+    rw p.1 (early f c.part-2.new.reader c.in_err-bytes.field-0.0 c.in_err-bytes.ensures.reads (omega arith) (refl, tt) p.0 p.2)
 
 pub unreachable-requires-in_default-2 : goal.unreachable-requires-in_default-2
 unreachable-requires-in_default-2 c =
@@ -46,22 +43,22 @@ levels c =
 pub policy_at-requires : goal.policy_at-requires
 policy_at-requires c = omega (arith, (levels (goal.at.policy_at-requires c).In-Thresholds).0)
 
-pub returns-in_err-policy : goal.returns-in_err-policy
-returns-in_err-policy c =
-    let so = levels (goal.at.returns-in_err-policy c).In-Thresholds in
+pub returns-in_err-policy-clause-parts : goal.returns-in_err-policy-clause-parts
+returns-in_err-policy-clause-parts c =
+    let so = levels (goal.at.returns-in_err-policy-clause-parts c).In-Thresholds in
     let p = err_from_is_err_and c.from_residual-in_err-policy.result c.from_residual-in_err-policy.ensures.1 in
     let bad = c.in_err-policy.ensures in
     let one : c.in-Thresholds.offset - 1 ≡ 0 + 1 = omega (arith, so.0) in
-    rw (p.1, p.2) (record { parts = misfit so.1 bad.0 bad.1 c.in_err-policy.field-0.0 (rw one at bad.2); ready = tt })
+    rw (p.1, p.2) (misfit so.1 bad.0 bad.1 c.in_err-policy.field-0.0 (rw one at bad.2))
 
 pub part-requires-3 : goal.part-requires-3
 part-requires-3 c = to_come (levels (goal.at.part-requires-3 c).In-Thresholds).1 (λ w e. cc)
 
-pub returns-in_err-words : goal.returns-in_err-words
-returns-in_err-words c =
-    let so = levels (goal.at.returns-in_err-words c).In-Thresholds in
+pub returns-in_err-words-clause-parts : goal.returns-in_err-words-clause-parts
+returns-in_err-words-clause-parts c =
+    let so = levels (goal.at.returns-in_err-words-clause-parts c).In-Thresholds in
     let p = err_from_is_err_and c.from_residual-in_err-words.result c.from_residual-in_err-words.ensures.1 in
-    rw p.1 (record { parts = early so.1 c.part-3.new.reader c.in_err-words.field-0.0 c.in_err-words.ensures.reads (omega arith) (refl, (c.in_ok-policy.ensures.1, tt)) p.0 p.2; ready = tt })
+    rw p.1 (early so.1 c.part-3.new.reader c.in_err-words.field-0.0 c.in_err-words.ensures.reads (omega arith) (refl, (c.in_ok-policy.ensures.1, tt)) p.0 p.2)
 
 pub unreachable-requires-in_default-3 : goal.unreachable-requires-in_default-3
 unreachable-requires-in_default-3 c =
@@ -84,11 +81,11 @@ word_count-words-requires c = let so = counted c in (so.0, so.1)
 pub part-requires-4 : goal.part-requires-4
 part-requires-4 c = to_come (counted (goal.at.part-requires-4 c).In-Words).2 (λ w e. cc)
 
-pub returns-in_err-cards : goal.returns-in_err-cards
-returns-in_err-cards c =
-    let so = counted (goal.at.returns-in_err-cards c).In-Words in
+pub returns-in_err-cards-clause-parts : goal.returns-in_err-cards-clause-parts
+returns-in_err-cards-clause-parts c =
+    let so = counted (goal.at.returns-in_err-cards-clause-parts c).In-Words in
     let p = err_from_is_err_and c.from_residual-in_err-cards.result c.from_residual-in_err-cards.ensures.1 in
-    rw p.1 (record { parts = early so.2 c.part-4.new.reader c.in_err-cards.field-0.0 c.in_err-cards.ensures.reads (omega arith) (refl, (c.in_ok-policy.ensures.1, (refl, tt))) p.0 p.2; ready = tt })
+    rw p.1 (early so.2 c.part-4.new.reader c.in_err-cards.field-0.0 c.in_err-cards.ensures.reads (omega arith) (refl, (c.in_ok-policy.ensures.1, (refl, tt))) p.0 p.2)
 
 pub unreachable-requires-in_default-4 : goal.unreachable-requires-in_default-4
 unreachable-requires-in_default-4 c =

@@ -1,19 +1,10 @@
-use Rattle.std.proofs.Common.{◌≡◌, ◌-◌, ◌≤◌, length, Ok, sym, refl, ap, ◌∙◌, arith}
+use Rattle.std.proofs.Common.{◌≡◌, ◌-◌, ◌≤◌, Ok, sym, ap, ◌∙◌, arith}
 use Rattle.trays.specs.Answers.{answer}
 use Rattle.trays.specs.Layout.{card_size}
-use Rattle.reports.proofs.Cards.{card_next, end_next, card_first, so_far_none, so_far_more}
+use Rattle.reports.proofs.Cards.{card_next, end_next, card_first, so_far_more}
 use Rattle.reports.proofs.Openings.{nothing, part_to_come, at_one}
 use Rattle.reports.proofs.Said.{card_said}
 use Rattle.reports.proofs.session.Session.present_all.Goals as goal
-
-pub loop-i-init : goal.loop-i-init
-loop-i-init g c =
-    let pool = c.args.self.now.pool in
-    record {
-      few = omega (arith, ap length c.requires.fresh.1);
-      frame = (refl, refl, refl);
-      so_far = λ ps e r. so_far_none (g.F.Field.arithmetic pool.field) pool.policy pool.words c.requires.fresh.0 c.requires.fresh.1 r (c.requires.coming ps e r);
-    }
 
 pub part-requires : goal.part-requires
 part-requires g c =
@@ -27,14 +18,11 @@ unreachable-requires g c =
     let found = card_next c.in_ok-bytes.field-0 so.to_come.2 some (c.in_ok-bytes.ensures.reads so.others e so.left).0 in
     c.in_default.not-Card found.0 found.1 found.2
 
-pub present-requires : goal.present-requires
-present-requires g c =
+pub present-requires-clause-long : goal.present-requires-clause-long
+present-requires-clause-long g c =
     let (ps, e, so) = at_one c.args.reader.now c.loop-i.invariant.so_far in
     let is = card_said c.loop-i.reader c.part.new.reader c.in-Card.is c.in_ok-bytes.ensures.reads so.others e so.left in
-    record {
-      long = (card_first so.to_come.2 is).0 ∙ ap card_size (sym c.loop-i.invariant.frame.2);
-      room = (omega (arith, c.loop-i.invariant.few, c.loop-i-test.true, c.ranges.cards), omega (arith, c.loop-i-test.true, c.ranges.cards));
-    }
+    (card_first so.to_come.2 is).0 ∙ ap card_size (sym c.loop-i.invariant.frame.2)
 
 pub loop-i-preserved : goal.loop-i-preserved
 loop-i-preserved g c =
