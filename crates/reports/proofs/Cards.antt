@@ -5,15 +5,15 @@
 --   card_next, end_next          where cards are to come an item is one, and where none is there is no item
 --   card_first                   a card that is to come has its length, and the others come after it
 --   so_far_more                  one more is presented
-use Rattle.std.proofs.Common.{◌≡◌, ℕ, suc, ◌+◌, ◌-◌, ◌≤◌, List, [], ◌∷◌, ◌++◌, map, length, take, drop, replicate, Some, None, Ok, Option, sym, refl, ap, ◌∙◌, subst, arith, Bor}
+use Rattle.std.proofs.Common.{◌≡◌, ℕ, suc, ◌+◌, ◌-◌, ◌≤◌, List, [], ◌∷◌, ◌++◌, length, take, drop, replicate, Some, None, Ok, Option, sym, refl, ap, ◌∙◌, arith, Bor}
 use Rattle.std.proofs.lemmas.List.{append_assoc, length-append, map_push, take_at}
 use Rattle.fields.specs.Arithmetic.{Arithmetic}
 use Rattle.sharing.specs.Cards.{Card}
 use Rattle.sharing.specs.Refusals.{number}
-use Rattle.pools.specs.Sessions.{CardList, none_yet, Call, present, step, after, refuses_card, answer_of, done as held_well, refused_by}
+use Rattle.pools.specs.Sessions.{CardList, Call, present, step, refuses_card, answer_of, done as held_well, refused_by}
 use Rattle.sharing.specs.declared.refusal.Refusal.{Refusal}
 use Rattle.trays.specs.Answers.{gave_at, as_answer, due, rest, Reading, NextSaid}
-use Rattle.trays.specs.Cards.{Says, level_in, id_in, values_in}
+use Rattle.trays.specs.Cards.{Says, values_in}
 use Rattle.trays.specs.Layout.{card, card_size, written, at_cards, a_card, Ending, Placed, Reads, done, broken, then}
 use Rattle.reports.specs.Runs.{card_in, list_after, told, turned_by, turned_from}
 use Rattle.reports.specs.Steps.{ToCome}
@@ -38,14 +38,11 @@ pub record SoFar (F : Arithmetic) (ts : List ℕ) (w n i : ℕ) (s : CardList) (
   pub refusals : turned_by refused ++ turned_from F ts w before others ≡ turned_from F ts w [] ps
 
 -- the card that bytes are is the one that was presented
-pub presented_is : (w n : ℕ) (bytes : List ℕ) (level id : ℕ) (values : List ℕ) → n ≡ w → Says n bytes level id values → ◌≡◌ {A = Card} (record { level = level; id = id; values = take n values }) (card_in w bytes)
-presented_is w n bytes level id values wide says =
+pub presented_is : {w n : ℕ} {bytes : List ℕ} {level id : ℕ} {values : List ℕ} → n ≡ w → Says n bytes level id values → ◌≡◌ {A = Card} (record { level = level; id = id; values = take n values }) (card_in w bytes)
+presented_is {n} {bytes} {values} wide says =
     let numbers = values_in n bytes in
     let front : take n values ≡ numbers = ap (take n) says.values_are ∙ take_at numbers (replicate (16 - n) 0) n (length_numbers n (drop 5 bytes)) in
-    ap (λ l. record { level = l; id = id; values = take n values }) says.level_is
-    ∙ ap (λ i. record { level = level_in bytes; id = i; values = take n values }) says.id_is
-    ∙ ap (λ v. record { level = level_in bytes; id = id_in bytes; values = v }) front
-    ∙ ap (λ m. card_in m bytes) wide
+    rw (front, says.level_is, says.id_is, wide) refl
 
 pub told_refused : (k at : ℕ) {o p : Option ℕ} (r : Refusal) → refused_by (number r) ≡ answer_of o → o ≡ p → told k at p ≡ record { ordinal = k; offset = at; reason = number r } ∷ []
 told_refused k at {p = None} r h same = cc
@@ -89,7 +86,7 @@ card_first {e} {c} {o} {qs} (then {at} {rest = more} {parts = ps} (a_card {w} {n
     let others : ps ≡ qs = cc in
     let less : n ≡ suc n - 1 = omega arith in (
       ap length (sym same) ∙ long,
-      (at + length b, more, subst (λ x. Reads (at_cards w x) (at + length b) more qs e) less (subst (λ x. Reads (at_cards w n) (at + length b) more x e) others r)),
+      (at + length b, more, rw (← less, ← others) r),
     )
 
 module _ (F : Arithmetic) (ts : List ℕ) (w : ℕ) where
@@ -113,11 +110,7 @@ module _ (F : Arithmetic) (ts : List ℕ) (w : ℕ) where
         split = so.split ∙ ap (λ l. before ++ l) is ∙ sym (append_assoc before (p ∷ []) qs);
         counted = length-append before (p ∷ []) ∙ ap (λ k. k + 1) so.counted;
         left = (said so.others e so.left).1;
-        to_come = subst (λ m. ToCome w m qs e) less first.1;
-        list = list ∙ ap (λ l. step F ts w l (present c)) so.list ∙ sym (after_push F ts w none_yet (map f before) (present c)) ∙ ap (after F ts w none_yet) (sym (map_push f before p));
-        refusals =
-            ap (λ l. l ++ turned_from F ts w (before ++ p ∷ []) qs) (refusals ∙ ap (λ k. turned_by r ++ told (k + 1) o (refuses_card F ts w s.held c)) (sym so.counted) ∙ ap (λ l. turned_by r ++ told (length before + 1) o (refuses_card F ts w l.held c)) so.list)
-            ∙ append_assoc (turned_by r) (told (length before + 1) o (refuses_card F ts w (list_after F ts w before).held c)) (turned_from F ts w (before ++ p ∷ []) qs)
-            ∙ ap (λ l. turned_by r ++ turned_from F ts w before l) (sym is)
-            ∙ so.refusals;
+        to_come = rw (← less) first.1;
+        list = rw (list, so.list, map_push, after_push) refl;
+        refusals = rw (refusals, ← so.counted, so.list, append_assoc) (rw is at so.refusals);
       }

@@ -3,17 +3,18 @@
 --   nothing              where an option is no item it is none
 --   no_fault             an item is no fault
 --   same_reading         from where a reader stands there is one reading
---   not_ended            a part is to come where one has to
---   ReadSoFar            these parts are read, and what comes next stands at an offset
+--   not_ended, part_to_come    a part is to come where one has to
+--   at_one               what holds of every reading of what is to come holds of the one
+--   part_said            an item is the part that is to come
+--   ReadSoFar, ReadThen  these parts are read, and what comes next stands at an offset; and one part more
 --   begun                none is read
---   still_to_come        what comes next is to come from the reader
---   to_come              so a part is, where one has to
---   part_read            an item is a part that may stand there, which is read then too
---   is_field, is_thresholds, is_words, is_count    what it is where this comes next
---   field_read, thresholds_read, words_read, count_read    the parts with the one that it is
---   early                a fault before the card count stops the run
---   misfit               so do thresholds that make no policy
---   opens                the parts before the cards
+--   left_over            the parts begin with those that are read, and the others are to come
+--   still_to_come, to_come    what comes next is to come; so a part is, where one has to
+--   part_read            a part that may stand there is read
+--   early, misfit        a fault before the card count stops the run; so do thresholds that make no policy
+--   is_field, is_thresholds, is_words, is_count               what an item is where this comes next
+--   field_there, thresholds_there, words_there, count_there   that it is so of what a request gave
+--   field_read, thresholds_read, words_read, count_read       the part that it is, is read
 use Rattle.std.proofs.Common.{◌≡◌, ℕ, ◌+◌, ◌<◌, ◌≤◌, List, [], ◌∷◌, ◌++◌, length, Some, None, Ok, Err, Option, sym, refl, ap, ◌∙◌, Bor}
 use Rattle.std.proofs.lemmas.List.{append_assoc, append-nil}
 use Rattle.reports.proofs.Said.{no_part, fault_said}
@@ -63,6 +64,7 @@ not_ended last (done {w}) h = last w refl
 not_ended last (broken w) h = cc
 not_ended last (then {at} {p} f k r) h = no_part p at ended (sym h)
 
+-- so it is to come from a reader that stands there
 pub part_to_come : (t : TrayReader) {next : Next} {at : ℕ} {bytes : List ℕ} {qs : List Placed} {f : Ending} → ((w : ℕ) → next ≡ at_cards w 0 → ⊥) → Reading t qs f → Reads next at bytes qs f → PartToCome t
 part_to_come t {qs} {f} last s reads ps e r h =
     let same = same_reading t ps qs e f r s in
@@ -91,6 +93,11 @@ pub record ReadSoFar (t₀ t : TrayReader) (known : List Placed) (next : Next) (
   pub bytes : List ℕ
   pub reads : Reads next at bytes others ending
 
+-- one part more is read, which stands at an offset
+abbrev pub ReadThen : (t₀ u : TrayReader) (known : List Placed) (at : ℕ) → Part → Next → Type 0
+ReadThen t₀ u known at p next = ReadSoFar t₀ u (known ++ at_place p at ∷ []) next (at + length (written p))
+
+-- none is read
 pub begun : (t : TrayReader) → ((parts : List Placed) (e : Ending) → Reading t parts e → Whole parts e) → ReadSoFar t t [] at_field 0
 begun t all =
     let (ps, e, r, one) = reader_one_way t in
@@ -98,11 +105,13 @@ begun t all =
     record { parts = ps; ending = e; whole = r; others = ps; split = refl; left = r; bytes = bytes; reads = reads }
 
 module _ {t₀ t : TrayReader} {known : List Placed} {next : Next} {at : ℕ} (so : ReadSoFar t₀ t known next at) where
+  -- whatever the first reader had to come begins with these parts, and the others are to come from the second
   pub left_over : (parts : List Placed) (e : Ending) → Reading t₀ parts e → (others : List Placed) × (parts ≡ known ++ others) × Reading t others e
   left_over parts e r =
       let same = same_reading t₀ parts so.parts e so.ending r so.whole in
       (so.others, same.0 ∙ so.split, rw same.1 so.left)
 
+  -- and they begin with what comes next
   pub still_to_come : (parts : List Placed) (e : Ending) → Reading t parts e → (bytes : List ℕ) × Reads next at bytes parts e
   still_to_come parts e r =
       let same = same_reading t parts so.others e so.ending r so.left in
@@ -113,7 +122,7 @@ module _ {t₀ t : TrayReader} {known : List Placed} {next : Next} {at : ℕ} (s
 
   -- an item is a part that may stand there
   part_read : ((w : ℕ) → next ≡ at_cards w 0 → ⊥) → (u : TrayReader) (i : Item) → NextSaid t (Ok (Some i)) u
-      → (p : Part) × (after : Next) × Follows next p after × (as_answer i ≡ due_part p at) × ReadSoFar t₀ u (known ++ at_place p at ∷ []) after (at + length (written p))
+      → (p : Part) × (after : Next) × Follows next p after × (as_answer i ≡ due_part p at) × ReadThen t₀ u known at p after
   part_read last u i said =
       let now = said so.others so.ending so.left in
       let (p, after, f, is, split, (bytes, reads)) = part_said so.reads last i now.0 in (
@@ -181,46 +190,46 @@ is_count at (item.CardCount n) a_count e = (n, refl)
 is_count at (item.Card x o) a_count e = cc
 
 module _ {t₀ t : TrayReader} {known : List Placed} {at : ℕ} (u : TrayReader) (i : Item) (said : NextSaid t (Ok (Some i)) u) where
-  pub a_field_there : ReadSoFar t₀ t known at_field at → (f : TrayField) × (i ≡ item.Field f)
-  a_field_there so = let (p, after, f, e, more) = part_read so (λ w e. cc) u i said in is_field at i f e
+  pub field_there : ReadSoFar t₀ t known at_field at → (f : TrayField) × (i ≡ item.Field f)
+  field_there so = let (p, after, f, e, more) = part_read so (λ w e. cc) u i said in is_field at i f e
 
   pub field_read : ReadSoFar t₀ t known at_field at → (code : TrayField) → i ≡ item.Field code
-      → ReadSoFar t₀ u (known ++ at_place (field (field_number code)) at ∷ []) at_thresholds (at + 1)
+      → ReadThen t₀ u known at (field (field_number code)) at_thresholds
   field_read so code is = let (p, after, f, e, more) = part_read so (λ w e. cc) u i said in go f e more
     where
-      go : {p : Part} {after : Next} → Follows at_field p after → as_answer i ≡ due_part p at → ReadSoFar t₀ u (known ++ at_place p at ∷ []) after (at + length (written p))
-          → ReadSoFar t₀ u (known ++ at_place (field (field_number code)) at ∷ []) at_thresholds (at + 1)
+      go : {p : Part} {after : Next} → Follows at_field p after → as_answer i ≡ due_part p at → ReadThen t₀ u known at p after
+          → ReadThen t₀ u known at (field (field_number code)) at_thresholds
       go (a_field {b} l h) e more = let same : b ≡ field_number code = cc in rw same at more
 
   pub thresholds_there : ReadSoFar t₀ t known at_thresholds at → (x : Bor (List ℕ)) × (o : ℕ) × (i ≡ item.Thresholds x o)
   thresholds_there so = let (p, after, f, e, more) = part_read so (λ w e. cc) u i said in is_thresholds at i f e
 
   pub thresholds_read : ReadSoFar t₀ t known at_thresholds at → (x : Bor (List ℕ)) (o : ℕ) → i ≡ item.Thresholds x o
-      → (o ≡ at + 1) × ReadSoFar t₀ u (known ++ at_place (thresholds x.now) at ∷ []) at_words (at + length (written (thresholds x.now)))
+      → (o ≡ at + 1) × ReadThen t₀ u known at (thresholds x.now) at_words
   thresholds_read so x o is = let (p, after, f, e, more) = part_read so (λ w e. cc) u i said in go f e more
     where
-      go : {p : Part} {after : Next} → Follows at_thresholds p after → as_answer i ≡ due_part p at → ReadSoFar t₀ u (known ++ at_place p at ∷ []) after (at + length (written p))
-          → (o ≡ at + 1) × ReadSoFar t₀ u (known ++ at_place (thresholds x.now) at ∷ []) at_words (at + length (written (thresholds x.now)))
+      go : {p : Part} {after : Next} → Follows at_thresholds p after → as_answer i ≡ due_part p at → ReadThen t₀ u known at p after
+          → (o ≡ at + 1) × ReadThen t₀ u known at (thresholds x.now) at_words
       go (some_thresholds {ts}) e more = let same : ts ≡ x.now = cc in (cc, rw same at more)
 
   pub words_there : ReadSoFar t₀ t known at_words at → (w : ℕ) × (i ≡ item.Words w)
   words_there so = let (p, after, f, e, more) = part_read so (λ w e. cc) u i said in is_words at i f e
 
   pub words_read : ReadSoFar t₀ t known at_words at → (w : ℕ) → i ≡ item.Words w
-      → (1 ≤ w) × (w ≤ 16) × ReadSoFar t₀ u (known ++ at_place (words w) at ∷ []) (at_count w) (at + 1)
+      → (1 ≤ w) × (w ≤ 16) × ReadThen t₀ u known at (words w) (at_count w)
   words_read so w is = let (p, after, f, e, more) = part_read so (λ w e. cc) u i said in go f e more
     where
-      go : {p : Part} {after : Next} → Follows at_words p after → as_answer i ≡ due_part p at → ReadSoFar t₀ u (known ++ at_place p at ∷ []) after (at + length (written p))
-          → (1 ≤ w) × (w ≤ 16) × ReadSoFar t₀ u (known ++ at_place (words w) at ∷ []) (at_count w) (at + 1)
+      go : {p : Part} {after : Next} → Follows at_words p after → as_answer i ≡ due_part p at → ReadThen t₀ u known at p after
+          → (1 ≤ w) × (w ≤ 16) × ReadThen t₀ u known at (words w) (at_count w)
       go (some_words {w = v} l h) e more = let same : v ≡ w = cc in (rw same at l, rw same at h, rw same at more)
 
   pub count_there : (w : ℕ) → ReadSoFar t₀ t known (at_count w) at → (n : ℕ) × (i ≡ item.CardCount n)
   count_there w so = let (p, after, f, e, more) = part_read so (λ w e. cc) u i said in is_count at i f e
 
   pub count_read : {w : ℕ} → ReadSoFar t₀ t known (at_count w) at → (n : ℕ) → i ≡ item.CardCount n
-      → ReadSoFar t₀ u (known ++ at_place (card_count n) at ∷ []) (at_cards w n) (at + 1)
+      → ReadThen t₀ u known at (card_count n) (at_cards w n)
   count_read {w} so n is = let (p, after, f, e, more) = part_read so (λ w e. cc) u i said in go f e more
     where
-      go : {p : Part} {after : Next} → Follows (at_count w) p after → as_answer i ≡ due_part p at → ReadSoFar t₀ u (known ++ at_place p at ∷ []) after (at + length (written p))
-          → ReadSoFar t₀ u (known ++ at_place (card_count n) at ∷ []) (at_cards w n) (at + 1)
+      go : {p : Part} {after : Next} → Follows (at_count w) p after → as_answer i ≡ due_part p at → ReadThen t₀ u known at p after
+          → ReadThen t₀ u known at (card_count n) (at_cards w n)
       go (a_count {n = m}) e more = let same : m ≡ n = cc in rw same at more

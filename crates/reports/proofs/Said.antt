@@ -1,6 +1,9 @@
 -- What a request says of what was to come.
---   card_said     it gave a card
---   fault_said    it gave a fault
+--   no_part            an ending is no part
+--   over_due           where an ending is due there is no part, and it is the ending
+--   card_is, card_due  where a card is due it is the first part
+--   card_said          so it is where a request gave a card
+--   fault_said         where it gave a fault, no part was to come, and the fault is the ending
 use Rattle.std.proofs.Common.{◌≡◌, ℕ, List, [], ◌∷◌, Some, Ok, Err, sym, refl, ap, ◌∙◌, Bor}
 use Rattle.trays.specs.declared.item.Item.{Item}
 use Rattle.trays.specs.declared.item.Item.TheVariants as item

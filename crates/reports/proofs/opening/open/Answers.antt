@@ -1,8 +1,8 @@
 use Rattle.std.proofs.Common.{◌≡◌, ◌+◌, ◌-◌, ◌≤◌, [], ◌∷◌, length, refl, arith}
 use Rattle.std.proofs.lemmas.Result.{err_from_is_err_and}
 use Rattle.trays.specs.Fields.{field_number}
-use Rattle.trays.specs.Layout.{field, thresholds, words, written, at_words, at_count}
-use Rattle.reports.proofs.Openings.{at_place, ReadSoFar, begun, left_over, still_to_come, to_come, early, misfit, a_field_there, field_read, thresholds_there, thresholds_read, words_there, words_read, count_there, count_read}
+use Rattle.trays.specs.Layout.{field, thresholds, words, placed, written, at_words, at_count}
+use Rattle.reports.proofs.Openings.{ReadSoFar, begun, left_over, still_to_come, to_come, early, misfit, field_there, field_read, thresholds_there, thresholds_read, words_there, words_read, count_there, count_read}
 use Rattle.reports.proofs.opening.open.Goals as goal
 use Rattle.reports.proofs.opening.open.Goals.{In-Thresholds, In-Words}
 
@@ -13,7 +13,7 @@ returns-in_err-field-clause-parts c =
 
 pub unreachable-requires : goal.unreachable-requires
 unreachable-requires c =
-    let there = a_field_there c.part.new.reader c.in_ok-field.field-0 c.in_ok-field.ensures.reads (begun c.args.reader.now c.requires) in
+    let there = field_there c.part.new.reader c.in_ok-field.field-0 c.in_ok-field.ensures.reads (begun c.args.reader.now c.requires) in
     c.in_default.not-Field there.0 there.1
 
 pub part-requires-2 : goal.part-requires-2
@@ -35,7 +35,7 @@ unreachable-requires-in_default-2 c =
 -- the field and the thresholds are read
 levels : (c : In-Thresholds)
     → (c.in-Thresholds.offset ≡ 0 + 1 + 1)
-    × ReadSoFar c.args.reader.now c.part-2.new.reader (at_place (field (field_number c.in-Field.field)) 0 ∷ at_place (thresholds c.in-Thresholds.bytes.now) (0 + 1) ∷ []) at_words (0 + 1 + length (written (thresholds c.in-Thresholds.bytes.now)))
+    × ReadSoFar c.args.reader.now c.part-2.new.reader (placed 0 (field (field_number c.in-Field.field) ∷ thresholds c.in-Thresholds.bytes.now ∷ [])) at_words (0 + 1 + length (written (thresholds c.in-Thresholds.bytes.now)))
 levels c =
     let f = field_read c.part.new.reader c.in_ok-field.field-0 c.in_ok-field.ensures.reads (begun c.args.reader.now c.requires) c.in-Field.field c.in-Field.is in
     thresholds_read c.part-2.new.reader c.in_ok-bytes.field-0 c.in_ok-bytes.ensures.reads f c.in-Thresholds.bytes c.in-Thresholds.offset c.in-Thresholds.is
@@ -69,7 +69,7 @@ unreachable-requires-in_default-3 c =
 -- so is the number of words
 counted : (c : In-Words)
     → (1 ≤ c.in-Words.words) × (c.in-Words.words ≤ 16)
-    × ReadSoFar c.args.reader.now c.part-3.new.reader (at_place (field (field_number c.in-Field.field)) 0 ∷ at_place (thresholds c.in-Thresholds.bytes.now) (0 + 1) ∷ at_place (words c.in-Words.words) (0 + 1 + length (written (thresholds c.in-Thresholds.bytes.now))) ∷ [])
+    × ReadSoFar c.args.reader.now c.part-3.new.reader (placed 0 (field (field_number c.in-Field.field) ∷ thresholds c.in-Thresholds.bytes.now ∷ words c.in-Words.words ∷ []))
     (at_count c.in-Words.words) (0 + 1 + length (written (thresholds c.in-Thresholds.bytes.now)) + 1)
 counted c =
     let so = levels (goal.at.word_count-words-requires c).In-Thresholds in

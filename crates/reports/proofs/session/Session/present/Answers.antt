@@ -8,7 +8,7 @@ pub returns-in-Err-clause-refusals : goal.returns-in-Err-clause-refusals
 returns-in-Err-clause-refusals g c =
     let pool = c.args.self.now.pool in
     let refuses = refuses_card (g.F.Field.arithmetic pool.field) pool.policy pool.words pool.list.held in
-    let is = presented_is _ _ c.args.bytes.now c.in-Some.card.level c.in-Some.card.id c.in-Some.card.values (c.get-words.ensures.words ∙ c.words.ensures) c.in-Some.ensures in
+    let is = presented_is (c.get-words.ensures.words ∙ c.words.ensures) c.in-Some.ensures in
     let why = told_refused (c.args.index + 1) c.args.offset c.in-Err.refusal c.in-Err.ensures.answer (ap refuses is) in
     rw (c.push.ensures.items, map_push, why) refl
 
@@ -16,6 +16,6 @@ pub returns-in_default-presented-clause-refusals : goal.returns-in_default-prese
 returns-in_default-presented-clause-refusals g c =
     let pool = c.args.self.now.pool in
     let refuses = refuses_card (g.F.Field.arithmetic pool.field) pool.policy pool.words pool.list.held in
-    let is = presented_is _ _ c.args.bytes.now c.in-Some.card.level c.in-Some.card.id c.in-Some.card.values (c.get-words.ensures.words ∙ c.words.ensures) c.in-Some.ensures in
+    let is = presented_is (c.get-words.ensures.words ∙ c.words.ensures) c.in-Some.ensures in
     let why = told_held (c.args.index + 1) c.args.offset c.in_default-presented.ensures.answer (ap refuses is) in
     rw (why, append-nil) refl
