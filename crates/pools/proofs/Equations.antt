@@ -1,8 +1,11 @@
 -- A card as a linear equation in the coefficients.
---   derivative_dot    the derivative on a card is a dot product
---   reads_last        an array that reads the last place
---   dot_same          dot products of equal values are equal
---   last_dot          the form of the last place reads it
+--   sum_parts               a sum in two parts
+--   dot_same                dot products of equal values are equal
+--   last_here, last_else    what stands at the last place of an array that reads it, and at the others
+--   reads_last              zeros and a one read the last place
+--   el_derivative           the derivative on a card, in the field's own terms
+--   derivative_dot          it is a dot product
+--   last_dot                the form of the last place reads it
 -- Assumes nothing.
 use Rattle.std.proofs.Common.{◌≡◌, ℕ, zero, suc, ◌+◌, ◌-◌, ◌<◌, ◌≤◌, cond, ◌≢◌, get_or, set, replicate, sym, refl, ap, ◌∙◌, ap₂, add-zero, add-suc, arith, eq-eqb, ne_eqb}
 use Rattle.std.proofs.lemmas.Grind.{elements}
@@ -25,11 +28,8 @@ module _ {V : Type 0} (K : Field V) where
 
   -- a sum in two parts
   sum_parts : (d n : ℕ) (f : ℕ → V) → field.sum K (d + n) f ≡ add (field.sum K d f) (field.sum K n (λ k. f (d + k)))
-  sum_parts d zero f = ap (λ (m : ℕ). field.sum K m f) (add-zero d) ∙ sym (K.add_zero _)
-  sum_parts d (suc n) f =
-      ap (λ (m : ℕ). field.sum K m f) (add-suc d n)
-      ∙ ap (λ s. add s (f (d + n))) (sum_parts d n f)
-      ∙ add_assoc _ _ _
+  sum_parts d zero f = rw add-zero (sym (K.add_zero _))
+  sum_parts d (suc n) f = rw add-suc (ap (λ s. add s (f (d + n))) (sum_parts d n f) ∙ add_assoc _ _ _)
 
 pub dot_same : (F : Arithmetic) (t : ℕ) (a b x y : ℕ → ℕ) → ((k : ℕ) → k < t → a k ≡ b k) → ((k : ℕ) → k < t → x k ≡ y k) → dot F t a x ≡ dot F t b y
 dot_same F zero a b x y f g = refl

@@ -1,10 +1,13 @@
 -- Held cards and their equations, card by card.
---   say_push               one more card and its equation
---   outside, all_below     some number is no element; where none is so, each is one
---   outside_never          no numbers solve a card with a value that is no element
---   satisfied_solved, solved_satisfied    values satisfy all equations just if they solve the cards
---   padded                 what follows the decided values
---   judged                 what is decided of the key's form is the right verdict
+--   say_push                           one more card and its equation
+--   outside, all_below                 some number is no element; where none is so, each is one
+--   outside_never                      no numbers solve a card with a value that is no element
+--   card_solved, card_satisfied        values satisfy an equation just if they solve its card
+--   satisfied_solved, solved_satisfied    the same of all of them
+--   front, zeros_follow                the values that are decided, and what follows them
+--   padded                             zeros follow what is decided
+--   solution, solved, reads            solutions of the equations and of the cards, and what reads their key
+--   judged                             what is decided of the key's form is the right verdict
 -- Assumes nothing.
 use Rattle.std.proofs.Common.{◌≡◌, ℕ, ◌-◌, ◌%◌, ◌<◌, ◌≤◌, Bool, true, false, leb, List, [], ◌∷◌, ◌++◌, length, get_or, take, drop, replicate, sym, refl, ap, ◌∙◌, subst, ⊎_elim, mod-eq_of_lt, arith, leb-false, leb-true}
 use mathlib.Core.List.Memᴰ

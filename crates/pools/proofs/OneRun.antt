@@ -1,6 +1,9 @@
 -- Of any calls one list of answers is right, and no other.
---   one_answer          the one right answer to a call
---   one_run_is_right    the right answers of a session
+--   One                    an answer to a call is right, and no other
+--   judged, counted        of a judging, and of a count
+--   Met, met_below         the policy is met at a level below a number, or at none
+--   one_answer             the one right answer to a call
+--   one_run_is_right       the right answers of a session
 -- Assumes nothing.
 use Rattle.std.proofs.Common.{◌≡◌, ℕ, zero, suc, ◌<◌, ◌≤◌, Bool, true, false, eqb, ◌⊎◌, List, [], ◌∷◌, length, get_or, refl, ap, ◌∙◌, subst, ap₂, inl, inr, arith}
 use native.Mathlib.Decide.{ℕ_discrete, dec_le}

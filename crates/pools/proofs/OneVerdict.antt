@@ -1,13 +1,17 @@
 -- Of any held cards one verdict is right, and no other: over every field, for all thresholds, words and cards. Here the
 -- elimination is a function of the theory, so that worked cases can be computed.
---   card_row             the row that a card is
---   solved_holds, holds_solved    numbers solve the cards just if their codes satisfy the rows
---   means_right          what is claimed of the rows is the right verdict
+--   card_row, key_row                the row that a card is, and the form that reads the key's word
+--   Holds                            values satisfy the rows of these cards
+--   solved_holds, holds_solved       numbers solve the cards just if their codes satisfy the rows
+--   verdict_of                       a verdict of the theory, in the words of the statement
+--   solved                           values that satisfy the rows, as a solution
+--   means_right                      what is claimed of the rows is the right verdict
+--   right_fitting                    the right verdict on cards with w elements each
 --   Never, fits_by, fits, all_fit    each card has w elements, or nothing agrees with all of them
---   right_verdict        the right verdict, with the proof
---   one_verdict_is_right
+--   right_verdict                    the right verdict, with the proof
+--   one_verdict_is_right             and no other is right
 -- Assumes nothing.
-use Rattle.std.proofs.Common.{◌≡◌, ℕ, ◌<◌, Bool, true, false, ◌⊎◌, List, [], ◌∷◌, map, length, get_or, sym, refl, ap, ◌∙◌, subst, inl, inr, arith}
+use Rattle.std.proofs.Common.{◌≡◌, ℕ, ◌<◌, Bool, true, false, ◌⊎◌, List, [], ◌∷◌, map, length, get_or, sym, refl, ap, ◌∙◌, inl, inr, arith}
 use native.Mathlib.Decide.{ℕ_discrete, dec_lt}
 use Rattle.fields.specs.Arithmetic.{Arithmetic, Laws}
 use Rattle.linear.specs.Solutions.{Values}
@@ -61,7 +65,7 @@ module _ (F : Arithmetic) (L : Laws F) (ts : List ℕ) (w : ℕ) where
     solved : (y : Assignment (Code F)) → Holds held y → Solved F L ts w held (numbers F L y)
     solved y h = record {
       elements = λ j k l m. (y j k).1;
-      cards = holds_solved (numbers F L y) held fit (subst (Holds held) (sym (read_numbers F L y)) h);
+      cards = holds_solved (numbers F L y) held fit (rw (read_numbers F L y) h);
     }
 
     pub means_right : 0 < w → (v : systems.Verdict (Code F)) → Means (field_of F L) (top ts) w (Holds held) key_row v → Right F ts w held (verdict_of v)

@@ -1,6 +1,6 @@
 -- A session on one pool, request by request.
---   after_push, right_push    one more call at the end of a run: the list after it, and that its answer is right too
 --   same_seen                 what is seen of a pool is what is seen of another
+--   after_push, right_push    one more call at the end of a run: the list after it, and that its answer is right too
 --   Running                   what a session that began with a new pool keeps after i requests
 --   run_goes_on               the same after one more
 -- Assumes nothing.

@@ -1,8 +1,11 @@
 -- What the solutions of the cards' equations say of the key is the right verdict.
 --   right_unique           no two verdicts are right
 --   right_long             a key that is right has w words
+--   constant               w times one element
 --   right_contradictory, right_undecided, right_decided    each verdict, from what it claims of agreeing coefficients
---   never_solved, every_value, one_value    each, from what is claimed of solutions
+--   Gives                  what the form of the last place gives
+--   key_of_solution        so it is the key of a solution
+--   never_solved, every_value, one_value    each verdict, from what is claimed of solutions
 --   no_words               where a key has no words
 -- Assumes nothing.
 use Rattle.std.proofs.Common.{◌≡◌, ℕ, ◌<◌, ◌≤◌, List, length, get_or, sym, refl, ap, ◌∙◌, arith}

@@ -2,6 +2,7 @@
 --   SoFar                        of these cards the first are presented, and the others are to come
 --   presented_is                 the card that bytes are is the one that is presented
 --   told_refused, told_held      what is told of a card that is refused, and of one that is not
+--   a_card_is                    an item that is said as a card is one
 --   card_next, end_next          where cards are to come an item is one, and where none is there is no item
 --   card_first                   a card that is to come has its length, and the others come after it
 --   so_far_more                  one more is presented
