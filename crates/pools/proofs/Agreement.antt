@@ -1,13 +1,17 @@
 -- Coefficients that agree with cards, as solutions of the cards' equations.
---   every_map, every_all, every_both    what follows for every member of a list
---   assigned, list_of       coefficients as a list, and by word and place
---   CardSolved              the numbers solve the equation that a card is
---   Solved                  elements that solve the equations of all held cards
---   agreeing_solved         agreeing coefficients solve them
---   solved_agreeing         solutions are agreeing coefficients
---   key_read                the form of the last place reads the key
+--   every_map, every_both            what follows for every member of a list
+--   Fits                             a card has w elements
+--   assigned, list_of                coefficients by word and place, and as a list
+--   list_assigned                    those of a list that is made so
+--   element_below                    what stands in a list of elements is one, and so is what is past it
+--   CardSolved, Solved               numbers solve the equation that a card is, and those of all held cards as elements
+--   agrees_solved, solved_agrees     coefficients agree with a card just if they solve its equation
+--   solved_same                      only what stands at the words and places counts
+--   agrees_long                      a card with which coefficients agree has w values
+--   key_read                         the form of the last place reads the key
+--   agreeing_solved, solved_agreeing    agreeing coefficients solve all equations, and solutions are agreeing coefficients
 -- Assumes nothing.
-use Rattle.std.proofs.Common.{◌≡◌, ℕ, ◌+◌, ◌-◌, ◌*◌, ◌/◌, ◌%◌, ◌<◌, List, [], ◌∷◌, length, get_or, sym, refl, ap, ◌∙◌, subst, ap₂, mod-lt, div-lt_iff_lt-mul, mul-zero, arith}
+use Rattle.std.proofs.Common.{◌≡◌, ℕ, ◌+◌, ◌-◌, ◌*◌, ◌/◌, ◌%◌, ◌<◌, List, [], ◌∷◌, length, get_or, sym, refl, ap, ◌∙◌, subst, ap₂, mod-lt, div-lt_iff_lt-mul, arith}
 use native.Mathlib.Decide.{dec_lt}
 use lib.ListN.{get_or-eq_default}
 use Rattle.std.proofs.lemmas.Nat.{mul-add-lt, div-mul-add, mod-mul-add}
@@ -25,13 +29,12 @@ pub every_map : {A : Type 0} (P Q : A → Type 0) (xs : List A) → ((x : A) →
 every_map P Q [] f h = tt
 every_map P Q (x ∷ xs) f h = (f x h.0, every_map P Q xs f h.1)
 
-pub every_all : {A : Type 0} (P : A → Type 0) (xs : List A) → ((x : A) → P x) → Every P xs
-every_all P [] f = tt
-every_all P (x ∷ xs) f = (f x, every_all P xs f)
-
 pub every_both : {A : Type 0} (P Q R : A → Type 0) (xs : List A) → ((x : A) → P x → Q x → R x) → Every P xs → Every Q xs → Every R xs
 every_both P Q R [] f h k = tt
 every_both P Q R (x ∷ xs) f h k = (f x h.0 k.0, every_both P Q R xs f h.1 k.1)
+
+abbrev pub Fits : Arithmetic → ℕ → Card → Type 0
+Fits F w c = Elements F w c.values
 
 -- word j of the coefficients x at place k
 abbrev pub assigned : ℕ → List ℕ → Values
@@ -89,9 +92,8 @@ module _ (F : Arithmetic) (L : Laws F) where
               | yes p ↦ sym (last_dot F L (top ts) (assigned (top ts) x j) p (element_below _ x h _))
               | no d ↦
                   let none : top ts ≡ 0 = omega arith in
-                  let empty : w * top ts ≡ 0 = ap (λ (n : ℕ). w * n) none ∙ mul-zero w in
-                  get_or-eq_default x 0 (omega (arith, h.long))
-                  ∙ sym (ap (λ (n : ℕ). dot F n (last_place (top ts)) (assigned (top ts) x j)) none)
+                  let empty = rw none at h.long in
+                  rw none (get_or-eq_default x 0 (omega arith))
             ]
 
     module _ (held : List Card) where
@@ -101,17 +103,17 @@ module _ (F : Arithmetic) (L : Laws F) where
         cards = every_map (Agrees F ts w x) (CardSolved (assigned (top ts) x)) held (agrees_solved x) a.agrees;
       }
 
-      pub solved_agreeing : Every (λ c. length c.values ≡ w) held → (y : Values) → Solved held y → Agreeing F ts w held (list_of (top ts) w y)
+      pub solved_agreeing : Every (Fits F w) held → (y : Values) → Solved held y → Agreeing F ts w held (list_of (top ts) w y)
       unfolding list_of
-      solved_agreeing long y s =
+      solved_agreeing fit y s =
           let x = list_of (top ts) w y in
           record {
             elements = record {
               long = length_row _ _;
-              below = λ k l. subst (λ n. n < F.size) (sym (getD_row _ _ k l)) (within k l);
+              below = λ k l. rw (getD_row _ _ k l) (within k l);
             };
-            agrees = every_both (λ c. length c.values ≡ w) (CardSolved y) (Agrees F ts w x) held
-                (λ c n h. solved_agrees x c n (solved_same y (assigned (top ts) x) c (list_assigned (top ts) w y) h)) long s.cards;
+            agrees = every_both (Fits F w) (CardSolved y) (Agrees F ts w x) held
+                (λ c f h. solved_agrees x c f.long (solved_same y (assigned (top ts) x) c (list_assigned (top ts) w y) h)) fit s.cards;
           }
         where
           within : (k : ℕ) → k < w * top ts → y (k / top ts) (k % top ts) < F.size
@@ -120,6 +122,6 @@ module _ (F : Arithmetic) (L : Laws F) where
                 | yes p ↦ s.elements (k / top ts) (k % top ts) ((div-lt_iff_lt-mul p).1 l) (mod-lt k p)
                 | no d ↦
                     let none : top ts ≡ 0 = omega arith in
-                    let empty : w * top ts ≡ 0 = ap (λ (n : ℕ). w * n) none ∙ mul-zero w in
+                    let below = rw none at l in
                     absurd (omega arith)
               ]

@@ -1,6 +1,9 @@
 -- The sum on a card is the formal derivative.
---   order_none, order_more     that of order 0 is the value; that of order d + 1 is that of order d of the derived polynomial
---   cards_carry_derivatives
+--   sum_same                   sums of equal terms are equal
+--   falling_more               a falling product with its first factor taken out
+--   order_none, order_more     the derivative of order 0 is the value; that of order d + 1 is that of order d of the derived
+--                              polynomial
+--   cards_carry_derivatives    both
 -- Assumes nothing.
 use Rattle.std.proofs.Common.{◌≡◌, ℕ, zero, suc, ◌+◌, ◌-◌, sym, refl, ap, ◌∙◌, ap₂, suc-add, zero-add, arith}
 use Rattle.fields.specs.Arithmetic.{Arithmetic, Laws}

@@ -1,12 +1,15 @@
 -- A card as a linear equation in the coefficients.
---   derivative_dot    the derivative on a card is a dot product
---   reads_last        an array that reads the last place
---   dot_same          dot products of equal values are equal
---   last_dot          the form of the last place reads it
+--   sum_parts               a sum in two parts
+--   dot_same                dot products of equal values are equal
+--   last_here, last_else    what stands at the last place of an array that reads it, and at the others
+--   reads_last              zeros and a one read the last place
+--   el_derivative           the derivative on a card, in the field's own terms
+--   derivative_dot          it is a dot product
+--   last_dot                the form of the last place reads it
 -- Assumes nothing.
-use Rattle.std.proofs.Common.{◌≡◌, ℕ, zero, suc, ◌+◌, ◌-◌, ◌<◌, ◌≤◌, cond, ◌≢◌, List, length, get_or, set, replicate, sym, refl, ap, ◌∙◌, ap₂, add-zero, add-suc, arith, get_or-set_other, get_or-set_same, eq-eqb, ne_eqb}
-use native.Mathlib.Decide.{ℕ_discrete}
-use lib.ListN.{length-replicate}
+use Rattle.std.proofs.Common.{◌≡◌, ℕ, zero, suc, ◌+◌, ◌-◌, ◌<◌, ◌≤◌, cond, ◌≢◌, get_or, set, replicate, sym, refl, ap, ◌∙◌, ap₂, add-zero, add-suc, arith, eq-eqb, ne_eqb}
+use Rattle.std.proofs.lemmas.Grind.{elements}
+use Rattle.std.proofs.lemmas.Bool.Decides.{nat_tests}
 use Rattle.fields.specs.Arithmetic.{Arithmetic, Laws}
 use Rattle.linear.specs.Solutions.{dot}
 use Rattle.linear.proofs.Fields.{Field}
@@ -25,11 +28,8 @@ module _ {V : Type 0} (K : Field V) where
 
   -- a sum in two parts
   sum_parts : (d n : ℕ) (f : ℕ → V) → field.sum K (d + n) f ≡ add (field.sum K d f) (field.sum K n (λ k. f (d + k)))
-  sum_parts d zero f = ap (λ (m : ℕ). field.sum K m f) (add-zero d) ∙ sym (K.add_zero _)
-  sum_parts d (suc n) f =
-      ap (λ (m : ℕ). field.sum K m f) (add-suc d n)
-      ∙ ap (λ s. add s (f (d + n))) (sum_parts d n f)
-      ∙ add_assoc _ _ _
+  sum_parts d zero f = rw add-zero (sym (K.add_zero _))
+  sum_parts d (suc n) f = rw add-suc (ap (λ s. add s (f (d + n))) (sum_parts d n f) ∙ add_assoc _ _ _)
 
 pub dot_same : (F : Arithmetic) (t : ℕ) (a b x y : ℕ → ℕ) → ((k : ℕ) → k < t → a k ≡ b k) → ((k : ℕ) → k < t → x k ≡ y k) → dot F t a x ≡ dot F t b y
 dot_same F zero a b x y f g = refl
@@ -47,13 +47,8 @@ last_else t k d = ap (λ b. cond b 1 0) (ne_eqb k (t - 1) d)
 
 -- zeros and a one at the last of t places
 pub reads_last : (n t : ℕ) → 1 ≤ t → t ≤ n → (k : ℕ) → k < t → ◌≡◌ {A = ℕ} (get_or (set (replicate n 0) (t - 1) 1) k 0) (last_place t k)
-reads_last n t l m k h =
-    let zeros : List ℕ = replicate n 0 in
-    let long : t - 1 < length zeros = omega (arith, length-replicate {A = ℕ} n 0) in
-    elim (ℕ_discrete k (t - 1)) [
-      | yes e ↦ ap (λ (i : ℕ). get_or (set zeros (t - 1) 1) i 0) e ∙ get_or-set_same zeros (t - 1) 1 0 long ∙ sym (ap (last_place t) e ∙ last_here t)
-      | no d ↦ get_or-set_other zeros (t - 1) k 1 0 d ∙ zeros_at n k ∙ sym (last_else t k d)
-    ]
+unfolding last_place
+reads_last n t l m k h = grind (arith, elements, nat_tests, zeros_at)
 
 module _ (F : Arithmetic) (L : Laws F) where
   el_derivative : (t d u : ℕ) (a : ℕ → ℕ) → d ≤ t → el F L (derivative F t d u a) ≡ field.dot (field_of F L) t (λ i. el F L (coefficient F d u i)) (λ i. el F L (a i))

@@ -1,7 +1,7 @@
 -- The worked cases, by computing.
 --   found, found_right        the right verdict as a function that computes
 --   answers, answers_right    the right answers of a session, likewise
---   worked_cases
+--   worked_cases              all of them
 -- Assumes nothing.
 use Rattle.std.proofs.Common.{◌≡◌, ℕ, List, [], ◌∷◌, refl, subst}
 use native.Mathlib.Decide.{ℕ_discrete, dec_lt, dec_le}

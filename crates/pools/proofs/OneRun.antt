@@ -1,9 +1,13 @@
--- Of list_any calls one list of answers is right, and no other.
---   one_answer          the one right answer to a call
---   one_run_is_right    the right answers of a session
+-- Of any calls one list of answers is right, and no other.
+--   One                    an answer to a call is right, and no other
+--   judged, counted        of a judging, and of a count
+--   Met, met_below         the policy is met at a level below a number, or at none
+--   one_answer             the one right answer to a call
+--   one_run_is_right       the right answers of a session
 -- Assumes nothing.
-use Rattle.std.proofs.Common.{◌≡◌, ℕ, zero, suc, ◌<◌, ◌≤◌, Bool, true, false, eqb, ◌⊎◌, List, [], ◌∷◌, length, get_or, sym, refl, ap, ◌∙◌, subst, ap₂, inl, inr, arith}
+use Rattle.std.proofs.Common.{◌≡◌, ℕ, zero, suc, ◌<◌, ◌≤◌, Bool, true, false, eqb, ◌⊎◌, List, [], ◌∷◌, length, get_or, refl, ap, ◌∙◌, subst, ap₂, inl, inr, arith}
 use native.Mathlib.Decide.{ℕ_discrete, dec_le}
+use Rattle.std.proofs.lemmas.Bool.{false_from_ne_true}
 use Rattle.fields.specs.Arithmetic.{Arithmetic, Laws}
 use Rattle.pools.specs.Sessions.{CardList, Call, present, withdraw, judge, count, ask_held, ask_turned, Answer, refused_by, truth, RightAnswer, RightRun, MeetsPolicy, up_to, step}
 use Rattle.pools.specs.Sessions as sessions
@@ -11,23 +15,16 @@ use Rattle.pools.specs.Stands.{OneRunIsRight}
 use Rattle.pools.proofs.Verdicts.{right_unique}
 use Rattle.pools.proofs.OneVerdict.{right_verdict}
 
-pub not_true : (b : Bool) → (b ≡ true → ⊥) → b ≡ false
-not_true true h = absurd (h refl)
-not_true false h = refl
-
-pub false_not_true : {P : Type 0} → false ≡ true → P
-false_not_true e = let z : ◌≡◌ {A = ℕ} 0 1 = cc in absurd (omega arith)
-
 module _ (F : Arithmetic) (L : Laws F) (ts : List ℕ) (w : ℕ) (s : CardList) where
   unfoldable pub One : Call → Type 0
   One c = (a : Answer) × RightAnswer F ts w s c a × ((b : Answer) → RightAnswer F ts w s c b → b ≡ a)
 
   unfoldable pub judged : (n : ℕ) (b : Bool) → eqb n w ≡ b → One (judge n)
   unfolding One
-  judged n false e = (refused_by 8, ((λ i. refl), λ i. false_not_true (sym e ∙ i)), λ b h. h.0 e)
+  judged n false e = (refused_by 8, ((λ i. refl), λ i. cc), λ b h. h.0 e)
   judged n true e =
       let (v, r) = right_verdict F L ts w s.held in
-      (sessions.verdict v, ((λ i. false_not_true (sym i ∙ e)), λ i. (v, refl, r)), λ b h. let (u, j, q) = h.1 e in j ∙ ap sessions.verdict (right_unique F ts w s.held u v q r))
+      (sessions.verdict v, ((λ i. cc), λ i. (v, refl, r)), λ b h. let (u, j, q) = h.1 e in j ∙ ap sessions.verdict (right_unique F ts w s.held u v q r))
 
   -- the policy is met at a level below n, or at none
   abbrev pub Met : ℕ → Type 0
@@ -47,7 +44,7 @@ module _ (F : Arithmetic) (L : Laws F) (ts : List ℕ) (w : ℕ) (s : CardList) 
   unfoldable pub counted : MeetsPolicy F ts w s.held ⊎ (MeetsPolicy F ts w s.held → ⊥) → One count
   unfolding One
   counted (inl p) = (truth true, (true, refl, (λ e. p), λ q. refl), λ b h. let (t, i, f, g) = h in i ∙ ap truth (g p))
-  counted (inr n) = (truth false, (false, refl, (λ e. false_not_true e), λ q. absurd (n q)), λ b h. let (t, i, f, g) = h in i ∙ ap truth (not_true t (λ e. n (f e))))
+  counted (inr n) = (truth false, (false, refl, (λ e. cc), λ q. absurd (n q)), λ b h. let (t, i, f, g) = h in i ∙ ap truth (false_from_ne_true t (λ e. n (f e))))
 
   unfoldable pub one_answer : (c : Call) → (a : Answer) × RightAnswer F ts w s c a × ((b : Answer) → RightAnswer F ts w s c b → b ≡ a)
   unfolding One

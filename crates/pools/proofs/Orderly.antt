@@ -1,10 +1,12 @@
 -- Whatever the calls, the held cards are orderly.
---   none_of, every_also, every_push, every_keep, at_place    what holds of every member, from test to member, and kept
---   apart_push, apart_keep                                   cards with different ids, with one more and with fewer
---   stays                                                    one call
---   held_cards_are_orderly                                   all calls from an empty pool
+--   none_of                      where no member meets a test, each fails it
+--   every_push, every_keep       what holds of every member, of one more, and of those that are kept
+--   apart_push, apart_keep       cards with different ids, with one more and with fewer
+--   stays                        one call keeps the cards orderly
+--   orderly_after                many calls
+--   held_cards_are_orderly       all calls from an empty pool
 -- Assumes nothing.
-use Rattle.std.proofs.Common.{◌≡◌, ℕ, zero, suc, ◌<◌, ◌≤◌, Bool, true, false, cond, not, eqb, leb, List, [], ◌∷◌, ◌++◌, length, filter, get_or, Some, None, Option, sym, refl, arith, length-append, eqb-true, leb-false}
+use Rattle.std.proofs.Common.{◌≡◌, ℕ, Bool, true, false, cond, not, eqb, List, [], ◌∷◌, ◌++◌, length, filter, Some, None, Option, sym, refl, arith, length-append, eqb-true, leb-false}
 use borrow.Author.Tests.{eqb-false, not-false}
 use Rattle.std.proofs.lemmas.Bool.{or_parts}
 use Rattle.fields.specs.Arithmetic.{Arithmetic}
@@ -13,14 +15,13 @@ use Rattle.std.specs.List.{list_any}
 use Rattle.pools.specs.Sessions.{CardList, Call, present, withdraw, judge, count, ask_held, ask_turned, refusals, refuses_card, presented, step, after, none_yet, Accepted, Apart, Orderly}
 use Rattle.pools.specs.Stands.{HeldCardsAreOrderly}
 use Rattle.sharing.proofs.Firsts.{first_none}
+use Rattle.pools.proofs.Agreement.{every_map}
+use Rattle.pools.proofs.Holding.{all_below}
+use Rattle.std.proofs.lemmas.List.Sums.{length-filter, count_by-le-length}
 
 none_of : {A : Type 0} (p : A → Bool) (xs : List A) → list_any p xs ≡ false → Every (λ x. p x ≡ false) xs
 none_of p [] e = tt
 none_of p (x ∷ xs) e = let parts = or_parts (p x) (list_any p xs) e in (parts.0, none_of p xs parts.1)
-
-every_also : {A : Type 0} (P Q : A → Type 0) → ((x : A) → P x → Q x) → (xs : List A) → Every P xs → Every Q xs
-every_also P Q f [] h = tt
-every_also P Q f (x ∷ xs) h = (f x h.0, every_also P Q f xs h.1)
 
 every_push : {A : Type 0} (P : A → Type 0) (xs : List A) (y : A) → Every P xs → P y → Every P (xs ++ y ∷ [])
 every_push P [] y h p = (p, tt)
@@ -31,17 +32,6 @@ every_keep P p [] h = tt
 every_keep P p (x ∷ xs) h =
     let rest = every_keep P p xs h.1 in
     elim (p x) as (λ b. Every P (cond b (x ∷ filter p xs) (filter p xs))) [ true ↦ (h.0, rest) | false ↦ rest ]
-
-length_keep : {A : Type 0} (p : A → Bool) (xs : List A) → length (filter p xs) ≤ length xs
-length_keep p [] = omega arith
-length_keep p (x ∷ xs) =
-    let rest = length_keep p xs in
-    elim (p x) as (λ b. length (cond b (x ∷ filter p xs) (filter p xs)) ≤ length (x ∷ xs)) [ true ↦ omega arith | false ↦ omega arith ]
-
-at_place : (P : ℕ → Type 0) (xs : List ℕ) → Every P xs → (k : ℕ) → k < length xs → P (get_or xs k 0)
-at_place P [] h k l = absurd (omega arith)
-at_place P (x ∷ xs) h zero l = h.0
-at_place P (x ∷ xs) h (suc k) l = at_place P xs h.1 k (omega arith)
 
 module _ (F : Arithmetic) (ts : List ℕ) (w : ℕ) where
   apart_push : (cs : List Card) (c : Card) → Apart F ts w cs → Every (λ h. h.id ≡ c.id → ⊥) cs → Apart F ts w (cs ++ c ∷ [])
@@ -69,13 +59,12 @@ module _ (F : Arithmetic) (ts : List ℕ) (w : ℕ) where
           let i = eqb-true (length c.values) w (not-false _ long) in
           let n = eqb-false c.id 0 id.0 in
           let room = leb-false _ (length s.held) full in
-          let elements = every_also (λ v. leb F.size v ≡ false) (λ v. v < F.size) (λ v f. leb-false F.size v f) c.values (none_of _ c.values values) in
-          let others = every_also (λ h. eqb h.id c.id ≡ false) (λ h. h.id ≡ c.id → ⊥) (λ h f. eqb-false h.id c.id f) s.held (none_of _ s.held twice) in
+          let others = every_map (λ h. eqb h.id c.id ≡ false) (λ h. h.id ≡ c.id → ⊥) s.held (λ h f. eqb-false h.id c.id f) (none_of _ s.held twice) in
           record {
             few = omega (arith, length-append s.held (c ∷ []));
             counted = o.counted;
             accepted = every_push (Accepted F ts w) s.held c o.accepted (record {
-              elements = record { long = i; below = λ k l. at_place (λ v. v < F.size) c.values elements k (omega arith) };
+              elements = record { long = i; below = λ k l. all_below F w c.values values k (omega arith) };
               some_id = omega arith;
               id_below = leb-false F.size c.id id.1;
               level_below = leb-false (length ts) c.level level;
@@ -85,7 +74,7 @@ module _ (F : Arithmetic) (ts : List ℕ) (w : ℕ) where
   stays s o (withdraw id) =
       let p : Card → Bool = λ h. not (eqb h.id id) in
       record {
-        few = omega (arith, length_keep p s.held);
+        few = omega (arith, length-filter p s.held, count_by-le-length p s.held);
         counted = o.counted;
         accepted = every_keep (Accepted F ts w) p s.held o.accepted;
         apart = apart_keep p s.held o.apart;

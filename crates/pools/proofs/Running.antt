@@ -1,10 +1,10 @@
 -- A session on one pool, request by request.
+--   same_seen                 what is seen of a pool is what is seen of another
 --   after_push, right_push    one more call at the end of a run: the list after it, and that its answer is right too
 --   Running                   what a session that began with a new pool keeps after i requests
 --   run_goes_on               the same after one more
---   subst_three               what holds at three things holds at three that are equal to them
 -- Assumes nothing.
-use Rattle.std.proofs.Common.{◌≡◌, ℕ, ◌+◌, ◌<◌, List, [], ◌∷◌, ◌++◌, Result, map, length, get_or, take, set, sym, refl, ap, ◌∙◌, subst}
+use Rattle.std.proofs.Common.{◌≡◌, ℕ, ◌+◌, ◌<◌, List, [], ◌∷◌, ◌++◌, Result, map, length, get_or, take, set, refl, ap, ◌∙◌, subst}
 use Rattle.std.proofs.lemmas.List.{take_more_set, map_push, map_more}
 use Rattle.fields.specs.Arithmetic.{Arithmetic}
 use Rattle.pools.specs.Pools.{Seen, Frame, Steps, Answers}
@@ -14,8 +14,14 @@ use Rattle.sharing.specs.declared.refusal.Refusal.{Refusal}
 use Rattle.pools.specs.declared.session.Request.{Request}
 use Rattle.pools.specs.declared.session.Reply.{Reply}
 
+-- two pools are the same
+same_seen : {V : Type 0} {p q : Seen V} → Frame p q → q.list ≡ p.list → q ≡ p
+same_seen {V} {p} {q} frame list =
+    let same : ◌≡◌ {A = Seen V} (record { field = q.field; policy = q.policy; words = q.words; list = q.list }) (record { field = p.field; policy = p.policy; words = p.words; list = p.list }) = cc in
+    same
+
 module _ (F : Arithmetic) (ts : List ℕ) (w : ℕ) where
-  after_push : (s : CardList) (cs : List Call) (c : Call) → after F ts w s (cs ++ c ∷ []) ≡ step F ts w (after F ts w s cs) c
+  pub after_push : (s : CardList) (cs : List Call) (c : Call) → after F ts w s (cs ++ c ∷ []) ≡ step F ts w (after F ts w s cs) c
   after_push s [] c = refl
   after_push s (d ∷ cs) c = after_push (step F ts w s d) cs c
 
@@ -26,16 +32,10 @@ module _ (F : Arithmetic) (ts : List ℕ) (w : ℕ) where
   right_push s (d ∷ cs) [] c a run right = absurd run
   right_push s (d ∷ cs) (z ∷ zs) c a run right = (run.0, right_push (step F ts w s d) cs zs c a run.1 right)
 
-pub subst_three : {A B C : Type 0} (P : A → B → C → Type 0) (a x : A) (b y : B) (c z : C) → a ≡ x → b ≡ y → c ≡ z → P a b c → P x y z
-subst_three P a x b y c z e f g h = subst (λ v. P x y v) g (subst (λ v. P x v c) f (subst (λ v. P v b c) e h))
-
 module _ {V : Type 0} (arithmetic : V → Arithmetic) (field : V) (ts : List ℕ) (w : ℕ) (requests : List Request) where
   pub record Running (replies : List (Result Reply Refusal)) (i : ℕ) (pool : Seen V) : Type 0 where
     pub run : RightRun (arithmetic field) ts w none_yet (map called (take i requests)) (map replied (take i replies))
-    pub reached : pool.list ≡ after (arithmetic field) ts w none_yet (map called (take i requests))
-    pub same_field : pool.field ≡ field
-    pub same_policy : pool.policy ≡ ts
-    pub same_words : pool.words ≡ w
+    pub reached : pool ≡ record { field = field; policy = ts; words = w; list = after (arithmetic field) ts w none_yet (map called (take i requests)) }
 
   pub run_goes_on : (replies : List (Result Reply Refusal)) (i : ℕ) (before later : Seen V) (d : Request) (r : Result Reply Refusal)
       → i < length requests → i < length replies → Running replies i before
@@ -49,16 +49,8 @@ module _ {V : Type 0} (arithmetic : V → Arithmetic) (field : V) (ts : List ℕ
       let calls : map called (take (i + 1) requests) ≡ done ++ c ∷ [] = map_more called requests i d l in
       let answers : map replied (take (i + 1) (set replies i r)) ≡ map replied (take i replies) ++ replied r ∷ [] =
       ap (map replied) (take_more_set replies i r m) ∙ map_push replied (take i replies) r in
-      let here : (later.list ≡ step F ts w before.list c) × RightAnswer F ts w before.list c (replied r) =
-      subst_three
-      (λ f p v. (later.list ≡ step (arithmetic f) p v before.list c) × RightAnswer (arithmetic f) p v before.list c (replied r))
-      before.field field before.policy ts before.words w so_far.same_field so_far.same_policy so_far.same_words (steps, right) in
-      let there : RightAnswer F ts w (after F ts w none_yet done) c (replied r) =
-      subst (λ s. RightAnswer F ts w s c (replied r)) so_far.reached here.1 in
+      let (stepped, kept, right) = subst (λ s. Steps arithmetic s c later × Frame s later × Answers arithmetic s c (replied r)) so_far.reached (steps, frame, right) in
       record {
-        run = rw (calls, answers) (right_push F ts w none_yet done (map replied (take i replies)) c (replied r) so_far.run there);
-        reached = here.0 ∙ ap (λ s. step F ts w s c) so_far.reached ∙ sym (after_push F ts w none_yet done c) ∙ ap (after F ts w none_yet) (sym calls);
-        same_field = frame.0 ∙ so_far.same_field;
-        same_policy = frame.1 ∙ so_far.same_policy;
-        same_words = frame.2 ∙ so_far.same_words;
+        run = rw (calls, answers) (right_push F ts w none_yet done (map replied (take i replies)) c (replied r) so_far.run right);
+        reached = rw (calls, after_push) (same_seen kept stepped);
       }

@@ -33,6 +33,7 @@ fn theorems()
     ensures derivatives { CardsCarryDerivatives }
 {}
 
+#[tactic(auto, using(crate::proofs::Examples::worked_cases))]
 fn cases()
     ensures { WorkedCases }
 {}

@@ -2,18 +2,19 @@
 --   SoFar                        of these cards the first are presented, and the others are to come
 --   presented_is                 the card that bytes are is the one that is presented
 --   told_refused, told_held      what is told of a card that is refused, and of one that is not
+--   a_card_is                    an item that is said as a card is one
 --   card_next, end_next          where cards are to come an item is one, and where none is there is no item
 --   card_first                   a card that is to come has its length, and the others come after it
---   so_far_none, so_far_more     none is presented, and one more
-use Rattle.std.proofs.Common.{◌≡◌, ℕ, suc, ◌+◌, ◌-◌, ◌≤◌, List, [], ◌∷◌, ◌++◌, map, length, take, drop, replicate, Some, None, Ok, Option, sym, refl, ap, ◌∙◌, subst, arith, Bor}
+--   so_far_more                  one more is presented
+use Rattle.std.proofs.Common.{◌≡◌, ℕ, suc, ◌+◌, ◌-◌, ◌≤◌, List, [], ◌∷◌, ◌++◌, length, take, drop, replicate, Some, None, Ok, Option, sym, refl, ap, ◌∙◌, arith, Bor}
 use Rattle.std.proofs.lemmas.List.{append_assoc, length-append, map_push, take_at}
 use Rattle.fields.specs.Arithmetic.{Arithmetic}
 use Rattle.sharing.specs.Cards.{Card}
 use Rattle.sharing.specs.Refusals.{number}
-use Rattle.pools.specs.Sessions.{CardList, none_yet, Call, present, step, after, refuses_card, answer_of, done as held_well, refused_by}
+use Rattle.pools.specs.Sessions.{CardList, Call, present, step, refuses_card, answer_of, done as held_well, refused_by}
 use Rattle.sharing.specs.declared.refusal.Refusal.{Refusal}
 use Rattle.trays.specs.Answers.{gave_at, as_answer, due, rest, Reading, NextSaid}
-use Rattle.trays.specs.Cards.{Says, level_in, id_in, values_in}
+use Rattle.trays.specs.Cards.{Says, values_in}
 use Rattle.trays.specs.Layout.{card, card_size, written, at_cards, a_card, Ending, Placed, Reads, done, broken, then}
 use Rattle.reports.specs.Runs.{card_in, list_after, told, turned_by, turned_from}
 use Rattle.reports.specs.Steps.{ToCome}
@@ -21,9 +22,10 @@ use Rattle.trays.specs.declared.item.Item.{Item}
 use Rattle.trays.specs.declared.item.Item.TheVariants as item
 use Rattle.trays.specs.declared.reader.TrayReader.{TrayReader}
 use Rattle.reports.specs.declared.report.RefusedCard.{RefusedCard}
+use Rattle.pools.proofs.Running.{after_push}
 use Rattle.reports.proofs.Said.{card_said}
 use Rattle.trays.proofs.Numbers.{length_numbers}
-use Rattle.reports.proofs.Openings.{no_fault, impossible}
+use Rattle.reports.proofs.Openings.{no_fault}
 
 -- of these cards with this ending the first i are presented, and the others are to come
 pub record SoFar (F : Arithmetic) (ts : List ℕ) (w n i : ℕ) (s : CardList) (refused : List RefusedCard) (t : TrayReader) (ps : List Placed) (e : Ending) : Type 0 where
@@ -37,28 +39,25 @@ pub record SoFar (F : Arithmetic) (ts : List ℕ) (w n i : ℕ) (s : CardList) (
   pub refusals : turned_by refused ++ turned_from F ts w before others ≡ turned_from F ts w [] ps
 
 -- the card that bytes are is the one that was presented
-pub presented_is : (w n : ℕ) (bytes : List ℕ) (level id : ℕ) (values : List ℕ) → n ≡ w → Says n bytes level id values → ◌≡◌ {A = Card} (record { level = level; id = id; values = take n values }) (card_in w bytes)
-presented_is w n bytes level id values wide says =
+pub presented_is : {w n : ℕ} {bytes : List ℕ} {level id : ℕ} {values : List ℕ} → n ≡ w → Says n bytes level id values → ◌≡◌ {A = Card} (record { level = level; id = id; values = take n values }) (card_in w bytes)
+presented_is {n} {bytes} {values} wide says =
     let numbers = values_in n bytes in
     let front : take n values ≡ numbers = ap (take n) says.values_are ∙ take_at numbers (replicate (16 - n) 0) n (length_numbers n (drop 5 bytes)) in
-    ap (λ l. record { level = l; id = id; values = take n values }) says.level_is
-    ∙ ap (λ i. record { level = level_in bytes; id = i; values = take n values }) says.id_is
-    ∙ ap (λ v. record { level = level_in bytes; id = id_in bytes; values = v }) front
-    ∙ ap (λ m. card_in m bytes) wide
+    rw (front, says.level_is, says.id_is, wide) refl
 
-pub told_refused : (k at : ℕ) (o : Option ℕ) (r : Refusal) → refused_by (number r) ≡ answer_of o → told k at o ≡ record { ordinal = k; offset = at; reason = number r } ∷ []
-told_refused k at None r h = cc
-told_refused k at (Some n) r h = let same : n ≡ number r = cc in ap (λ x. record { ordinal = k; offset = at; reason = x } ∷ []) same
+pub told_refused : (k at : ℕ) {o p : Option ℕ} (r : Refusal) → refused_by (number r) ≡ answer_of o → o ≡ p → told k at p ≡ record { ordinal = k; offset = at; reason = number r } ∷ []
+told_refused k at {p = None} r h same = cc
+told_refused k at {p = Some n} r h same = let is : n ≡ number r = cc in ap (λ x. record { ordinal = k; offset = at; reason = x } ∷ []) is
 
-pub told_held : (k at : ℕ) (o : Option ℕ) → held_well ≡ answer_of o → told k at o ≡ []
-told_held k at None h = refl
-told_held k at (Some n) h = cc
+pub told_held : (k at : ℕ) {o p : Option ℕ} → held_well ≡ answer_of o → o ≡ p → told k at p ≡ []
+told_held k at {p = None} h same = refl
+told_held k at {p = Some n} h same = cc
 
 a_card_is : (i : Item) (bytes : List ℕ) (at : ℕ) → as_answer i ≡ gave_at (card bytes) at → (x : Bor (List ℕ)) × (o : ℕ) × (i ≡ item.Card x o)
-a_card_is (item.Field n) bytes at h = impossible (cc)
-a_card_is (item.Thresholds x o) bytes at h = impossible (cc)
-a_card_is (item.Words n) bytes at h = impossible (cc)
-a_card_is (item.CardCount n) bytes at h = impossible (cc)
+a_card_is (item.Field n) bytes at h = cc
+a_card_is (item.Thresholds x o) bytes at h = cc
+a_card_is (item.Words n) bytes at h = cc
+a_card_is (item.CardCount n) bytes at h = cc
 a_card_is (item.Card x o) bytes at h = (x, o, refl)
 
 pub card_next : (i : Item) {w m at : ℕ} {bytes : List ℕ} {parts : List Placed} {e : Ending} → Reads (at_cards w m) at bytes parts e → 1 ≤ m → as_answer i ≡ due parts e → (x : Bor (List ℕ)) × (o : ℕ) × (i ≡ item.Card x o)
@@ -68,61 +67,42 @@ card_next i {at} (then (a_card {bytes} h) k r) l said = a_card_is i bytes at sai
 
 -- where no card is to come there is no item
 pub end_next : (i : Item) {w m at : ℕ} {bytes : List ℕ} {parts : List Placed} {e : Ending} → Reads (at_cards w m) at bytes parts e → m ≡ 0 → as_answer i ≡ due parts e → ⊥
-end_next (item.Field n) done l said = impossible (cc)
-end_next (item.Thresholds x o) done l said = impossible (cc)
-end_next (item.Words n) done l said = impossible (cc)
-end_next (item.CardCount n) done l said = impossible (cc)
-end_next (item.Card x o) done l said = impossible (cc)
+end_next (item.Field n) done l said = cc
+end_next (item.Thresholds x o) done l said = cc
+end_next (item.Words n) done l said = cc
+end_next (item.CardCount n) done l said = cc
+end_next (item.Card x o) done l said = cc
 end_next i (broken {at} {n} w) l said = absurd (no_fault i n at said)
 end_next i (then (a_card h) k r) l said = absurd (omega arith)
 
 -- a card that is to come has its length, and the others come after it
-pub card_first : {w m at : ℕ} {bytes : List ℕ} {parts : List Placed} {e : Ending} (c : List ℕ) (o : ℕ) (qs : List Placed) → Reads (at_cards w m) at bytes parts e → parts ≡ record { part = card c; offset = o } ∷ qs
+pub card_first : {w m at : ℕ} {bytes : List ℕ} {parts : List Placed} {e : Ending} {c : List ℕ} {o : ℕ} {qs : List Placed} → Reads (at_cards w m) at bytes parts e → parts ≡ record { part = card c; offset = o } ∷ qs
     → (length c ≡ card_size w) × ToCome w (m - 1) qs e
-card_first c o qs done h = impossible (cc)
-card_first c o qs (broken w) h = impossible (cc)
-card_first {e} c o qs (then {at} {rest = more} {parts = ps} (a_card {w} {n} {bytes = b} long) k r) h =
+card_first done h = cc
+card_first (broken w) h = cc
+card_first {e} {c} {o} {qs} (then {at} {rest = more} {parts = ps} (a_card {w} {n} {bytes = b} long) k r) h =
     let head : ◌≡◌ {A = Placed} (record { part = card b; offset = at }) (record { part = card c; offset = o }) = cc in
     let part_is : card b ≡ card c = ap (λ p. p.part) head in
     let same : b ≡ c = cc in
     let others : ps ≡ qs = cc in
     let less : n ≡ suc n - 1 = omega arith in (
       ap length (sym same) ∙ long,
-      (at + length b, more, subst (λ x. Reads (at_cards w x) (at + length b) more qs e) less (subst (λ x. Reads (at_cards w n) (at + length b) more x e) others r)),
+      (at + length b, more, rw (← less, ← others) r),
     )
 
 module _ (F : Arithmetic) (ts : List ℕ) (w : ℕ) where
-  after_push : (s : CardList) (calls : List Call) (c : Call) → after F ts w s (calls ++ c ∷ []) ≡ step F ts w (after F ts w s calls) c
-  after_push s [] c = refl
-  after_push s (d ∷ calls) c = after_push (step F ts w s d) calls c
-
-  pub so_far_none : (n : ℕ) (s : CardList) (refused : List RefusedCard) (t : TrayReader) (ps : List Placed) (e : Ending) → s ≡ none_yet → refused ≡ [] → Reading t ps e → ToCome w n ps e
-      → SoFar F ts w n 0 s refused t ps e
-  so_far_none n s refused t ps e fresh none r to_come =
-      let all : n ≡ n - 0 = omega arith in
-      record {
-        before = [];
-        others = ps;
-        split = refl;
-        counted = refl;
-        left = r;
-        to_come = subst (λ m. ToCome w m ps e) all to_come;
-        list = fresh;
-        refusals = ap (λ l. turned_by l ++ turned_from F ts w [] ps) none;
-      }
-
-  pub so_far_more : (n i : ℕ) (s s' : CardList) (r r' : List RefusedCard) (t t' : TrayReader) (ps : List Placed) (e : Ending) (x : Bor (List ℕ)) (o : ℕ) (it : Item)
+  pub so_far_more : {n i : ℕ} {s s' : CardList} {r r' : List RefusedCard} {t t' : TrayReader} {ps : List Placed} {e : Ending} {x : Bor (List ℕ)} {o : ℕ} {it : Item}
       → it ≡ item.Card x o → NextSaid t (Ok (Some it)) t'
       → s' ≡ step F ts w s (present (card_in w x.now))
       → turned_by r' ≡ turned_by r ++ told (i + 1) o (refuses_card F ts w s.held (card_in w x.now))
       → SoFar F ts w n i s r t ps e → SoFar F ts w n (i + 1) s' r' t' ps e
-  so_far_more n i s s' r r' t t' ps e x o it h said list refusals so =
+  so_far_more {n} {i} {s} {r} {t} {t'} {e} {x} {o} {it} h said list refusals so =
       let c = card_in w x.now in
       let p : Placed = record { part = card x.now; offset = o } in
       let before = so.before in
       let qs = rest so.others in
-      let is = card_said t t' it x o h said so.others e so.left in
-      let first = card_first x.now o qs so.to_come.2 is in
+      let is = card_said t t' h said so.others e so.left in
+      let first = card_first so.to_come.2 is in
       let less : n - i - 1 ≡ n - (i + 1) = omega arith in
       let f : Placed → Call = λ q. present (card_in w (written q.part)) in
       record {
@@ -131,11 +111,7 @@ module _ (F : Arithmetic) (ts : List ℕ) (w : ℕ) where
         split = so.split ∙ ap (λ l. before ++ l) is ∙ sym (append_assoc before (p ∷ []) qs);
         counted = length-append before (p ∷ []) ∙ ap (λ k. k + 1) so.counted;
         left = (said so.others e so.left).1;
-        to_come = subst (λ m. ToCome w m qs e) less first.1;
-        list = list ∙ ap (λ l. step F ts w l (present c)) so.list ∙ sym (after_push none_yet (map f before) (present c)) ∙ ap (after F ts w none_yet) (sym (map_push f before p));
-        refusals =
-            ap (λ l. l ++ turned_from F ts w (before ++ p ∷ []) qs) (refusals ∙ ap (λ k. turned_by r ++ told (k + 1) o (refuses_card F ts w s.held c)) (sym so.counted) ∙ ap (λ l. turned_by r ++ told (length before + 1) o (refuses_card F ts w l.held c)) so.list)
-            ∙ append_assoc (turned_by r) (told (length before + 1) o (refuses_card F ts w (list_after F ts w before).held c)) (turned_from F ts w (before ++ p ∷ []) qs)
-            ∙ ap (λ l. turned_by r ++ turned_from F ts w before l) (sym is)
-            ∙ so.refusals;
+        to_come = rw (← less) first.1;
+        list = rw (list, so.list, map_push, after_push) refl;
+        refusals = rw (refusals, ← so.counted, so.list, append_assoc) (rw is at so.refusals);
       }

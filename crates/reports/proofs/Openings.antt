@@ -1,23 +1,29 @@
 -- Reading a tray up to its cards.
+--   at_place             a part at an offset
 --   nothing              where an option is no item it is none
---   no_fault, impossible     an item is no fault; what can't be
---   FieldRead, ThresholdsRead, WordsRead, CountRead          what a request gave where such a part is due, and what is left
---   field_read, thresholds_read, words_read, count_read      that it is so
---   early                a fault before the card count stops the run
---   misfit               so do thresholds that make no policy
---   opens                the parts before the cards
---   reopened             the same, in other words
---   one_field, one_words, one_count, one_thresholds    an item says one thing
+--   no_fault             an item is no fault
 --   same_reading         from where a reader stands there is one reading
---   to_come              a part is to come where one has to
---   coming               the cards that are to come from it
-use Rattle.std.proofs.Common.{◌≡◌, ℕ, ◌+◌, ◌<◌, ◌≤◌, List, [], ◌∷◌, ◌++◌, length, Some, None, Option, sym, refl, ap, ◌∙◌, subst, arith, Bor}
+--   not_ended, part_to_come    a part is to come where one has to
+--   at_one               what holds of every reading of what is to come holds of the one
+--   part_said            an item is the part that is to come
+--   ReadSoFar, ReadThen  these parts are read, and what comes next stands at an offset; and one part more
+--   begun                none is read
+--   left_over            the parts begin with those that are read, and the others are to come
+--   still_to_come, to_come    what comes next is to come; so a part is, where one has to
+--   part_read            a part that may stand there is read
+--   early, misfit        a fault before the card count stops the run; so do thresholds that make no policy
+--   is_field, is_thresholds, is_words, is_count               what an item is where this comes next
+--   field_there, thresholds_there, words_there, count_there   that it is so of what a request gave
+--   field_read, thresholds_read, words_read, count_read       the part that it is, is read
+use Rattle.std.proofs.Common.{◌≡◌, ℕ, ◌+◌, ◌<◌, ◌≤◌, List, [], ◌∷◌, ◌++◌, length, Some, None, Ok, Err, Option, sym, refl, ap, ◌∙◌, Bor}
+use Rattle.std.proofs.lemmas.List.{append_assoc, append-nil}
+use Rattle.reports.proofs.Said.{no_part, fault_said}
 use Rattle.sharing.specs.Cards.{Every}
 use Rattle.sharing.specs.Refusals.{number, refuses_policy}
-use Rattle.trays.specs.Answers.{gave, gave_at, over, as_answer, as_ending, due, rest, Reading}
-use Rattle.trays.specs.Layout.{Part, field, thresholds, words, card_count, card, written, at_field, at_thresholds, at_words, at_count, at_cards, Next, a_field, some_thresholds, some_words, a_count, Ending, ended, fault, Placed, Reads, done, broken, then}
-use Rattle.reports.specs.Runs.{StopsEarly, no_policy, no_count, Stops, opening, refuses}
-use Rattle.reports.specs.Steps.{ToCome, PartToCome}
+use Rattle.trays.specs.Answers.{over, as_answer, due_part, due, rest, Reading, NextSaid}
+use Rattle.trays.specs.Layout.{Part, field, thresholds, words, card_count, written, at_field, at_thresholds, at_words, at_count, at_cards, Next, Follows, a_field, some_thresholds, some_words, a_count, Ending, ended, fault, Placed, Reads, done, broken, then}
+use Rattle.reports.specs.Runs.{StopsEarly, no_policy, no_count, Stops, refuses}
+use Rattle.reports.specs.Steps.{Whole, PartToCome}
 use Rattle.trays.specs.Fields.{field_number}
 use Rattle.trays.specs.declared.field.TrayField.{TrayField}
 use Rattle.trays.specs.declared.item.Fault.{Fault}
@@ -38,177 +44,13 @@ nothing (Some i) h = absurd (h i refl)
 
 -- an item is no fault
 pub no_fault : (i : Item) (n at : ℕ) → as_answer i ≡ over (fault n at) → ⊥
-no_fault (item.Field b) n at h = let z : ◌≡◌ {A = ℕ} 0 1 = cc in omega arith
-no_fault (item.Thresholds x o) n at h = let z : ◌≡◌ {A = ℕ} 0 1 = cc in omega arith
-no_fault (item.Words w) n at h = let z : ◌≡◌ {A = ℕ} 0 1 = cc in omega arith
-no_fault (item.CardCount m) n at h = let z : ◌≡◌ {A = ℕ} 0 1 = cc in omega arith
-no_fault (item.Card x o) n at h = let z : ◌≡◌ {A = ℕ} 0 1 = cc in omega arith
+no_fault (item.Field b) n at h = cc
+no_fault (item.Thresholds x o) n at h = cc
+no_fault (item.Words w) n at h = cc
+no_fault (item.CardCount m) n at h = cc
+no_fault (item.Card x o) n at h = cc
 
--- what can't be
-pub impossible : ◌≡◌ {A = ℕ} 0 1 → {P : Type 0} → P
-impossible z = absurd (omega arith)
-
--- a part is no second kind of part
-field_is : (i : Item) (b : ℕ) → as_answer i ≡ gave (field b) → (f : TrayField) × (i ≡ item.Field f) × (field_number f ≡ b)
-field_is (item.Field f) b h = (f, refl, cc)
-field_is (item.Thresholds x o) b h = impossible (cc)
-field_is (item.Words n) b h = impossible (cc)
-field_is (item.CardCount n) b h = impossible (cc)
-field_is (item.Card x o) b h = impossible (cc)
-
-words_is : (i : Item) (b : ℕ) → as_answer i ≡ gave (words b) → i ≡ item.Words b
-words_is (item.Field n) b h = cc
-words_is (item.Thresholds x o) b h = cc
-words_is (item.Words n) b h = cc
-words_is (item.CardCount n) b h = cc
-words_is (item.Card x o) b h = cc
-
-count_is : (i : Item) (b : ℕ) → as_answer i ≡ gave (card_count b) → i ≡ item.CardCount b
-count_is (item.Field n) b h = cc
-count_is (item.Thresholds x o) b h = cc
-count_is (item.Words n) b h = cc
-count_is (item.CardCount n) b h = cc
-count_is (item.Card x o) b h = cc
-
-thresholds_is : (i : Item) (ts : List ℕ) (o : ℕ) → as_answer i ≡ gave_at (thresholds ts) o → (x : Bor (List ℕ)) × (i ≡ item.Thresholds x o) × (x.now ≡ ts)
-thresholds_is (item.Field n) ts o h = impossible (cc)
-thresholds_is (item.Thresholds x a) ts o h = let same : a ≡ o = cc in (x, ap (item.Thresholds x) same, cc)
-thresholds_is (item.Words n) ts o h = impossible (cc)
-thresholds_is (item.CardCount n) ts o h = impossible (cc)
-thresholds_is (item.Card x a) ts o h = impossible (cc)
-
-pub record FieldRead (t : TrayReader) (i : Item) (at : ℕ) (parts : List Placed) (e : Ending) : Type 0 where
-  pub code : TrayField
-  pub is : i ≡ item.Field code
-  pub others : List Placed
-  pub parts_are : parts ≡ at_place (field (field_number code)) at ∷ others
-  pub left : Reading t others e
-  pub bytes : List ℕ
-  pub reads : Reads at_thresholds (at + 1) bytes others e
-
-pub record ThresholdsRead (t : TrayReader) (i : Item) (at : ℕ) (parts : List Placed) (e : Ending) : Type 0 where
-  pub levels : Bor (List ℕ)
-  pub is : i ≡ item.Thresholds levels (at + 1)
-  pub others : List Placed
-  pub parts_are : parts ≡ at_place (thresholds levels.now) at ∷ others
-  pub left : Reading t others e
-  pub bytes : List ℕ
-  pub reads : Reads at_words (at + length (written (thresholds levels.now))) bytes others e
-
-pub record WordsRead (t : TrayReader) (i : Item) (at : ℕ) (parts : List Placed) (e : Ending) : Type 0 where
-  pub count : ℕ
-  pub is : i ≡ item.Words count
-  pub low : 1 ≤ count
-  pub high : count ≤ 16
-  pub others : List Placed
-  pub parts_are : parts ≡ at_place (words count) at ∷ others
-  pub left : Reading t others e
-  pub bytes : List ℕ
-  pub reads : Reads (at_count count) (at + 1) bytes others e
-
-pub record CountRead (w : ℕ) (t : TrayReader) (i : Item) (at : ℕ) (parts : List Placed) (e : Ending) : Type 0 where
-  pub count : ℕ
-  pub is : i ≡ item.CardCount count
-  pub others : List Placed
-  pub parts_are : parts ≡ at_place (card_count count) at ∷ others
-  pub left : Reading t others e
-  pub bytes : List ℕ
-  pub reads : Reads (at_cards w count) (at + 1) bytes others e
-
-module _ (t : TrayReader) (i : Item) where
-  pub field_read : {at : ℕ} {bytes : List ℕ} {parts : List Placed} {e : Ending} → Reads at_field at bytes parts e → (as_answer i ≡ due parts e) × Reading t (rest parts) e → FieldRead t i at parts e
-  field_read (broken {at} {n} w) said = absurd (no_fault i n at said.0)
-  field_read {at} (then {rest = more} {parts = ps} (a_field {b} l h) k r) said =
-      let known = field_is i b said.0 in
-      record {
-        code = known.0;
-        is = known.1;
-        others = ps;
-        parts_are = ap (λ n. at_place (field n) at ∷ ps) (sym known.2);
-        left = said.1;
-        bytes = more;
-        reads = r;
-      }
-
-  pub thresholds_read : {at : ℕ} {bytes : List ℕ} {parts : List Placed} {e : Ending} → Reads at_thresholds at bytes parts e → (as_answer i ≡ due parts e) × Reading t (rest parts) e → ThresholdsRead t i at parts e
-  thresholds_read (broken {at} {n} w) said = absurd (no_fault i n at said.0)
-  thresholds_read {at} {e} (then {rest = more} {parts = ps} (some_thresholds {ts}) k r) said =
-      let known = thresholds_is i ts (at + 1) said.0 in
-      record {
-        levels = known.0;
-        is = known.1;
-        others = ps;
-        parts_are = ap (λ us. at_place (thresholds us) at ∷ ps) (sym known.2);
-        left = said.1;
-        bytes = more;
-        reads = subst (λ us. Reads at_words (at + length (written (thresholds us))) more ps e) (sym known.2) r;
-      }
-
-  pub words_read : {at : ℕ} {bytes : List ℕ} {parts : List Placed} {e : Ending} → Reads at_words at bytes parts e → (as_answer i ≡ due parts e) × Reading t (rest parts) e → WordsRead t i at parts e
-  words_read (broken {at} {n} w) said = absurd (no_fault i n at said.0)
-  words_read (then {rest = more} {parts = ps} (some_words {w} l h) k r) said = record {
-    count = w;
-    is = words_is i w said.0;
-    low = l;
-    high = h;
-    others = ps;
-    parts_are = refl;
-    left = said.1;
-    bytes = more;
-    reads = r;
-  }
-
-  pub count_read : {w at : ℕ} {bytes : List ℕ} {parts : List Placed} {e : Ending} → Reads (at_count w) at bytes parts e → (as_answer i ≡ due parts e) × Reading t (rest parts) e → CountRead w t i at parts e
-  count_read (broken {at} {n} w) said = absurd (no_fault i n at said.0)
-  count_read (then {rest = more} {parts = ps} (a_count {n}) k r) said = record {
-    count = n;
-    is = count_is i n said.0;
-    others = ps;
-    parts_are = refl;
-    left = said.1;
-    bytes = more;
-    reads = r;
-  }
-
--- after these parts there is a fault
-pub early : (known parts : List Placed) (e : Ending) (f : Fault) (s : Stop) → parts ≡ known → length known < 4 → Every (λ p. refuses p.part ≡ None) known → e ≡ as_ending f
-    → s ≡ record { refusal = f.refusal; layer = layer.Reader; offset = f.offset } → StopsEarly parts e s
-early known parts e f s h l fits k q =
-    subst (λ ps. StopsEarly ps e s) (sym h) (no_count (number f.refusal) f.offset l fits k (ap (λ x. number x.refusal) q, ap (λ x. x.layer) q, ap (λ x. x.offset) q))
-
--- after a field there are thresholds that make no policy
-pub misfit : (f : Placed) (at n : ℕ) (ts : List ℕ) (parts others more : List Placed) (e : Ending) (s : Stop) → parts ≡ f ∷ others → others ≡ at_place (thresholds ts) at ∷ more
-    → refuses_policy ts ≡ Some n → Stops n layer.Policy at s → StopsEarly parts e s
-misfit f at n ts parts others more e s h k bad stop = no_policy (f ∷ []) (at_place (thresholds ts) at) more n (h ∙ ap (λ ps. f ∷ ps) k) bad stop
-
-pub opens : (b : ℕ) (ts : List ℕ) (w n : ℕ) (parts p₁ p₂ p₃ cards : List Placed)
-    → parts ≡ at_place (field b) 0 ∷ p₁
-    → p₁ ≡ at_place (thresholds ts) (0 + 1) ∷ p₂
-    → p₂ ≡ at_place (words w) (0 + 1 + length (written (thresholds ts))) ∷ p₃
-    → p₃ ≡ at_place (card_count n) (0 + 1 + length (written (thresholds ts)) + 1) ∷ cards
-    → parts ≡ opening b ts w n ++ cards
-opens b ts w n parts p₁ p₂ p₃ cards h₀ h₁ h₂ h₃ =
-    h₀ ∙ ap (λ ps. at_place (field b) 0 ∷ ps)
-    (h₁ ∙ ap (λ ps. at_place (thresholds ts) (0 + 1) ∷ ps)
-    (h₂ ∙ ap (λ ps. at_place (words w) (0 + 1 + length (written (thresholds ts))) ∷ ps) h₃))
-
-pub reopened : (b b' : ℕ) (ts ts' : List ℕ) (w w' n n' : ℕ) (cards : List Placed) → b ≡ b' → ts ≡ ts' → w ≡ w' → n ≡ n' → opening b ts w n ++ cards ≡ opening b' ts' w' n' ++ cards
-reopened b b' ts ts' w w' n n' cards h₀ h₁ h₂ h₃ =
-    ap (λ x. opening x ts w n ++ cards) h₀ ∙ ap (λ x. opening b' x w n ++ cards) h₁ ∙ ap (λ x. opening b' ts' x n ++ cards) h₂ ∙ ap (λ x. opening b' ts' w' x ++ cards) h₃
-
--- an item says one thing
-pub one_field : (i : Item) (a b : TrayField) → i ≡ item.Field a → i ≡ item.Field b → a ≡ b
-one_field i a b h k = cc
-
-pub one_count : (i : Item) (a b : ℕ) → i ≡ item.CardCount a → i ≡ item.CardCount b → a ≡ b
-one_count i a b h k = cc
-
-pub one_words : (i : Item) (a b : ℕ) → i ≡ item.Words a → i ≡ item.Words b → a ≡ b
-one_words i a b h k = cc
-
-pub one_thresholds : (i : Item) (x y : Bor (List ℕ)) (a b : ℕ) → i ≡ item.Thresholds x a → i ≡ item.Thresholds y b → (x.now ≡ y.now) × (a ≡ b)
-one_thresholds i x y a b h k = let same : x ≡ y = cc in (ap (λ x. x.now) same, cc)
-
+-- from where a reader stands there is one reading
 pub same_reading : (t : TrayReader) (ps qs : List Placed) (e f : Ending) → Reading t ps e → Reading t qs f → (ps ≡ qs) × (e ≡ f)
 same_reading t ps qs e f r s =
     let all = reader_one_way t in
@@ -216,22 +58,178 @@ same_reading t ps qs e f r s =
     let two = all.3 qs f s in
     (one.0 ∙ sym two.0, one.1 ∙ sym two.1)
 
-pub coming : (t : TrayReader) (w w' n n' at : ℕ) (bytes : List ℕ) (ps qs : List Placed) (e f : Ending) → Reading t ps e → Reading t qs f → Reads (at_cards w n) at bytes qs f → w ≡ w' → n ≡ n' → ToCome w' n' ps e
-coming t w w' n n' at bytes ps qs e f r s reads h k =
-    let same = same_reading t ps qs e f r s in
-    (at, bytes, subst (λ x. Reads (at_cards x n') at bytes ps e) h (subst (λ x. Reads (at_cards w x) at bytes ps e) k (subst (λ x. Reads (at_cards w n) at bytes x e) (sym same.0) (subst (λ x. Reads (at_cards w n) at bytes qs x) (sym same.1) reads))))
-
 -- a part is to come where one has to
 not_ended : {next : Next} {at : ℕ} {bytes : List ℕ} {parts : List Placed} {e : Ending} → ((w : ℕ) → next ≡ at_cards w 0 → ⊥) → Reads next at bytes parts e → due parts e ≡ over ended → ⊥
 not_ended last (done {w}) h = last w refl
-not_ended last (broken w) h = impossible (cc)
-not_ended last (then {p = field b} f k r) h = impossible (cc)
-not_ended last (then {p = thresholds ts} f k r) h = impossible (cc)
-not_ended last (then {p = words w} f k r) h = impossible (cc)
-not_ended last (then {p = card_count n} f k r) h = impossible (cc)
-not_ended last (then {p = card bs} f k r) h = impossible (cc)
+not_ended last (broken w) h = cc
+not_ended last (then {at} {p} f k r) h = no_part p at ended (sym h)
 
-pub to_come : (t : TrayReader) {next : Next} {at : ℕ} {bytes : List ℕ} {qs : List Placed} {f : Ending} → ((w : ℕ) → next ≡ at_cards w 0 → ⊥) → Reading t qs f → Reads next at bytes qs f → PartToCome t
-to_come t {qs} {f} last s reads ps e r h =
+-- so it is to come from a reader that stands there
+pub part_to_come : (t : TrayReader) {next : Next} {at : ℕ} {bytes : List ℕ} {qs : List Placed} {f : Ending} → ((w : ℕ) → next ≡ at_cards w 0 → ⊥) → Reading t qs f → Reads next at bytes qs f → PartToCome t
+part_to_come t {qs} {f} last s reads ps e r h =
     let same = same_reading t ps qs e f r s in
-    not_ended last reads (subst (λ x. due x f ≡ over ended) same.0 (subst (λ x. due ps x ≡ over ended) same.1 h))
+    not_ended last reads (rw (same.0, same.1) at h)
+
+-- what holds of every reading of what is to come holds of the one
+pub at_one : {P : List Placed → Ending → Type 0} (t : TrayReader) → ((parts : List Placed) (e : Ending) → Reading t parts e → P parts e) → (parts : List Placed) × (e : Ending) × P parts e
+at_one t h = let (parts, e, r, one) = reader_one_way t in (parts, e, h parts e r)
+
+-- an item is the part that is to come
+part_said : {next : Next} {at : ℕ} {bytes : List ℕ} {parts : List Placed} {e : Ending} → Reads next at bytes parts e → ((w : ℕ) → next ≡ at_cards w 0 → ⊥) → (i : Item) → as_answer i ≡ due parts e
+    → (p : Part) × (after : Next) × Follows next p after × (as_answer i ≡ due_part p at) × (parts ≡ at_place p at ∷ rest parts)
+    × ((bytes : List ℕ) × Reads after (at + length (written p)) bytes (rest parts) e)
+part_said (done {w}) last i h = absurd (last w refl)
+part_said (broken {at} {n} w) last i h = absurd (no_fault i n at h)
+part_said (then {after} {p} {rest = more} f k r) last i h = (p, after, f, h, refl, (more, r))
+
+-- of what the first reader had to come these parts are read, and what comes next stands at an offset of the second
+pub record ReadSoFar (t₀ t : TrayReader) (known : List Placed) (next : Next) (at : ℕ) : Type 0 where
+  pub parts : List Placed
+  pub ending : Ending
+  pub whole : Reading t₀ parts ending
+  pub others : List Placed
+  pub split : parts ≡ known ++ others
+  pub left : Reading t others ending
+  pub bytes : List ℕ
+  pub reads : Reads next at bytes others ending
+
+-- one part more is read, which stands at an offset
+abbrev pub ReadThen : (t₀ u : TrayReader) (known : List Placed) (at : ℕ) → Part → Next → Type 0
+ReadThen t₀ u known at p next = ReadSoFar t₀ u (known ++ at_place p at ∷ []) next (at + length (written p))
+
+-- none is read
+pub begun : (t : TrayReader) → ((parts : List Placed) (e : Ending) → Reading t parts e → Whole parts e) → ReadSoFar t t [] at_field 0
+begun t all =
+    let (ps, e, r, one) = reader_one_way t in
+    let (bytes, reads) = all ps e r in
+    record { parts = ps; ending = e; whole = r; others = ps; split = refl; left = r; bytes = bytes; reads = reads }
+
+module _ {t₀ t : TrayReader} {known : List Placed} {next : Next} {at : ℕ} (so : ReadSoFar t₀ t known next at) where
+  -- whatever the first reader had to come begins with these parts, and the others are to come from the second
+  pub left_over : (parts : List Placed) (e : Ending) → Reading t₀ parts e → (others : List Placed) × (parts ≡ known ++ others) × Reading t others e
+  left_over parts e r =
+      let same = same_reading t₀ parts so.parts e so.ending r so.whole in
+      (so.others, same.0 ∙ so.split, rw same.1 so.left)
+
+  -- and they begin with what comes next
+  pub still_to_come : (parts : List Placed) (e : Ending) → Reading t parts e → (bytes : List ℕ) × Reads next at bytes parts e
+  still_to_come parts e r =
+      let same = same_reading t parts so.others e so.ending r so.left in
+      rw (same.0, same.1) (so.bytes, so.reads)
+
+  pub to_come : ((w : ℕ) → next ≡ at_cards w 0 → ⊥) → PartToCome t
+  to_come last = part_to_come t last so.left so.reads
+
+  -- an item is a part that may stand there
+  part_read : ((w : ℕ) → next ≡ at_cards w 0 → ⊥) → (u : TrayReader) (i : Item) → NextSaid t (Ok (Some i)) u
+      → (p : Part) × (after : Next) × Follows next p after × (as_answer i ≡ due_part p at) × ReadThen t₀ u known at p after
+  part_read last u i said =
+      let now = said so.others so.ending so.left in
+      let (p, after, f, is, split, (bytes, reads)) = part_said so.reads last i now.0 in (
+        p,
+        after,
+        f,
+        is,
+        record {
+          parts = so.parts;
+          ending = so.ending;
+          whole = so.whole;
+          others = rest so.others;
+          split = so.split ∙ ap (λ l. known ++ l) split ∙ sym (append_assoc known (at_place p at ∷ []) (rest so.others));
+          left = now.1;
+          bytes = bytes;
+          reads = reads;
+        },
+      )
+
+  -- a fault where the card count is not read yet
+  pub early : (u : TrayReader) (f : Fault) → NextSaid t (Err f) u → length known < 4 → Every (λ p. refuses p.part ≡ None) known
+      → (s : Stop) → s ≡ record { refusal = f.refusal; layer = layer.Reader; offset = f.offset }
+      → (parts : List Placed) (e : Ending) → Reading t₀ parts e → StopsEarly parts e s
+  early u f said l fits s q parts e r =
+      let (others, split, left) = left_over parts e r in
+      let none = fault_said t u f said others e left in
+      let all : parts ≡ known = split ∙ ap (λ ps. known ++ ps) none.0 ∙ append-nil known in
+      rw all (no_count (number f.refusal) f.offset l fits none.1 (cc, cc, cc))
+
+-- thresholds that make no policy
+pub misfit : {t₀ t : TrayReader} {f : Placed} {at at' : ℕ} {ts : List ℕ} {next : Next} → ReadSoFar t₀ t (f ∷ at_place (thresholds ts) at ∷ []) next at'
+    → (n : ℕ) → refuses_policy ts ≡ Some n → (s : Stop) → Stops n layer.Policy at s
+    → (parts : List Placed) (e : Ending) → Reading t₀ parts e → StopsEarly parts e s
+misfit {f} {at} {ts} so n bad s stop parts e r =
+    let (others, split, left) = left_over so parts e r in
+    no_policy (f ∷ []) (at_place (thresholds ts) at) others n split bad stop
+
+-- what an item is where this comes next
+is_field : {p : Part} {after : Next} (at : ℕ) (i : Item) → Follows at_field p after → as_answer i ≡ due_part p at → (f : TrayField) × (i ≡ item.Field f)
+is_field at (item.Field f) (a_field l h) e = (f, refl)
+is_field at (item.Thresholds x o) (a_field l h) e = cc
+is_field at (item.Words w) (a_field l h) e = cc
+is_field at (item.CardCount n) (a_field l h) e = cc
+is_field at (item.Card x o) (a_field l h) e = cc
+
+is_thresholds : {p : Part} {after : Next} (at : ℕ) (i : Item) → Follows at_thresholds p after → as_answer i ≡ due_part p at → (x : Bor (List ℕ)) × (o : ℕ) × (i ≡ item.Thresholds x o)
+is_thresholds at (item.Field f) some_thresholds e = cc
+is_thresholds at (item.Thresholds x o) some_thresholds e = (x, o, refl)
+is_thresholds at (item.Words w) some_thresholds e = cc
+is_thresholds at (item.CardCount n) some_thresholds e = cc
+is_thresholds at (item.Card x o) some_thresholds e = cc
+
+is_words : {p : Part} {after : Next} (at : ℕ) (i : Item) → Follows at_words p after → as_answer i ≡ due_part p at → (w : ℕ) × (i ≡ item.Words w)
+is_words at (item.Field f) (some_words l h) e = cc
+is_words at (item.Thresholds x o) (some_words l h) e = cc
+is_words at (item.Words w) (some_words l h) e = (w, refl)
+is_words at (item.CardCount n) (some_words l h) e = cc
+is_words at (item.Card x o) (some_words l h) e = cc
+
+is_count : {p : Part} {w : ℕ} {after : Next} (at : ℕ) (i : Item) → Follows (at_count w) p after → as_answer i ≡ due_part p at → (n : ℕ) × (i ≡ item.CardCount n)
+is_count at (item.Field f) a_count e = cc
+is_count at (item.Thresholds x o) a_count e = cc
+is_count at (item.Words w) a_count e = cc
+is_count at (item.CardCount n) a_count e = (n, refl)
+is_count at (item.Card x o) a_count e = cc
+
+module _ {t₀ t : TrayReader} {known : List Placed} {at : ℕ} (u : TrayReader) (i : Item) (said : NextSaid t (Ok (Some i)) u) where
+  pub field_there : ReadSoFar t₀ t known at_field at → (f : TrayField) × (i ≡ item.Field f)
+  field_there so = let (p, after, f, e, more) = part_read so (λ w e. cc) u i said in is_field at i f e
+
+  pub field_read : ReadSoFar t₀ t known at_field at → (code : TrayField) → i ≡ item.Field code
+      → ReadThen t₀ u known at (field (field_number code)) at_thresholds
+  field_read so code is = let (p, after, f, e, more) = part_read so (λ w e. cc) u i said in go f e more
+    where
+      go : {p : Part} {after : Next} → Follows at_field p after → as_answer i ≡ due_part p at → ReadThen t₀ u known at p after
+          → ReadThen t₀ u known at (field (field_number code)) at_thresholds
+      go (a_field {b} l h) e more = let same : b ≡ field_number code = cc in rw same at more
+
+  pub thresholds_there : ReadSoFar t₀ t known at_thresholds at → (x : Bor (List ℕ)) × (o : ℕ) × (i ≡ item.Thresholds x o)
+  thresholds_there so = let (p, after, f, e, more) = part_read so (λ w e. cc) u i said in is_thresholds at i f e
+
+  pub thresholds_read : ReadSoFar t₀ t known at_thresholds at → (x : Bor (List ℕ)) (o : ℕ) → i ≡ item.Thresholds x o
+      → (o ≡ at + 1) × ReadThen t₀ u known at (thresholds x.now) at_words
+  thresholds_read so x o is = let (p, after, f, e, more) = part_read so (λ w e. cc) u i said in go f e more
+    where
+      go : {p : Part} {after : Next} → Follows at_thresholds p after → as_answer i ≡ due_part p at → ReadThen t₀ u known at p after
+          → (o ≡ at + 1) × ReadThen t₀ u known at (thresholds x.now) at_words
+      go (some_thresholds {ts}) e more = let same : ts ≡ x.now = cc in (cc, rw same at more)
+
+  pub words_there : ReadSoFar t₀ t known at_words at → (w : ℕ) × (i ≡ item.Words w)
+  words_there so = let (p, after, f, e, more) = part_read so (λ w e. cc) u i said in is_words at i f e
+
+  pub words_read : ReadSoFar t₀ t known at_words at → (w : ℕ) → i ≡ item.Words w
+      → (1 ≤ w) × (w ≤ 16) × ReadThen t₀ u known at (words w) (at_count w)
+  words_read so w is = let (p, after, f, e, more) = part_read so (λ w e. cc) u i said in go f e more
+    where
+      go : {p : Part} {after : Next} → Follows at_words p after → as_answer i ≡ due_part p at → ReadThen t₀ u known at p after
+          → (1 ≤ w) × (w ≤ 16) × ReadThen t₀ u known at (words w) (at_count w)
+      go (some_words {w = v} l h) e more = let same : v ≡ w = cc in (rw same at l, rw same at h, rw same at more)
+
+  pub count_there : (w : ℕ) → ReadSoFar t₀ t known (at_count w) at → (n : ℕ) × (i ≡ item.CardCount n)
+  count_there w so = let (p, after, f, e, more) = part_read so (λ w e. cc) u i said in is_count at i f e
+
+  pub count_read : {w : ℕ} → ReadSoFar t₀ t known (at_count w) at → (n : ℕ) → i ≡ item.CardCount n
+      → ReadThen t₀ u known at (card_count n) (at_cards w n)
+  count_read {w} so n is = let (p, after, f, e, more) = part_read so (λ w e. cc) u i said in go f e more
+    where
+      go : {p : Part} {after : Next} → Follows (at_count w) p after → as_answer i ≡ due_part p at → ReadThen t₀ u known at p after
+          → ReadThen t₀ u known at (card_count n) (at_cards w n)
+      go (a_count {n = m}) e more = let same : m ≡ n = cc in rw same at more

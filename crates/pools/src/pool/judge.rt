@@ -83,6 +83,7 @@ impl<F: Field> Pool<F> {
 
     // Says what the held cards tell of the key, and writes it into the buffer where there is one: a buffer of another length
     // has a refusal of its own, so the key stands beside the judgement here.
+    #[tactic(auto, using(crate::proofs::Verdicts::right_long))]
     pub fn judge(&self, key: &mut [u32]) -> Result<Judgement<()>, Refusal>
         ensures answer { Answers F.arithmetic self.now (judge (length key.old)) (told result key.new) }
         ensures buffer { Kept result key.old key.new }

@@ -1,16 +1,7 @@
-use Rattle.std.proofs.Common.{◌≡◌, ℕ, ◌+◌, min, List, map, length, take, drop, set, sym, refl, ap, ◌∙◌, subst, arith}
-use Rattle.std.proofs.lemmas.List.{drop-set-lt, drop-drop}
-use Rattle.pools.specs.Requests.{called, replied}
-use Rattle.pools.specs.Sessions.{RightRun, none_yet}
-use Rattle.pools.proofs.Running.{run_goes_on, subst_three}
+use Rattle.std.proofs.Common.{arith}
+use Rattle.std.proofs.lemmas.Grind.{common_steps}
+use Rattle.pools.proofs.Running.{run_goes_on}
 use Rattle.pools.proofs.session.run_session.Goals as goal
-
-pub loop-i-init : goal.loop-i-init
-loop-i-init g c = (record { run = tt; reached = c.new-pool.ensures.list; same_field = refl; same_policy = refl; same_words = refl }, refl)
-
-untouched : {A : Type 0} (xs ys : List A) (i : ℕ) (x : A) → drop i xs ≡ drop i ys → drop (i + 1) (set xs i x) ≡ drop (i + 1) ys
-untouched xs ys i x e =
-    drop-set-lt (i + 1) xs i x (omega arith) ∙ sym (drop-drop 1 i xs) ∙ ap (drop 1) e ∙ drop-drop 1 i ys
 
 pub loop-i-preserved : goal.loop-i-preserved
 loop-i-preserved g c =
@@ -21,23 +12,5 @@ loop-i-preserved g c =
     let replies = c.loop-i.replies in (
       run_goes_on g.F.Field.arithmetic new.field new.policy new.words c.args.requests.now replies i c.loop-i.pool c.one.new.pool _ c.one.result
           (omega arith) (omega arith) inv.0 one.list one.frame one.answer,
-      untouched replies c.args.replies.now i c.one.result inv.1,
+      grind (arith, common_steps),
     )
-
-pub returns : goal.returns
-returns g c =
-    let new = c.new-pool.result in
-    let made = c.new-pool.ensures.frame in
-    let inv = c.loop-i.invariant in
-    let requests = c.args.requests.now in
-    let before = c.args.replies.now in
-    let replies = c.loop-i.replies in
-    let n = min (length requests) (length before) in
-    let all : c.loop-i.i ≡ n = omega (arith, c.min-i-end.ensures) in
-    let run = subst_three
-    (λ f p v. RightRun (g.F.Field.arithmetic f) p v none_yet (map called (take c.loop-i.i requests)) (map replied (take c.loop-i.i replies)))
-    new.field c.args.field new.policy c.args.policy new.words c.args.words made.0 made.1 made.2 inv.0.run in
-    record {
-      run = subst (λ k. RightRun (g.F.Field.arithmetic c.args.field) c.args.policy c.args.words none_yet (map called (take k requests)) (map replied (take k replies))) all run;
-      rest = subst (λ k. drop k replies ≡ drop k before) all inv.1;
-    }

@@ -1,8 +1,5 @@
-use Rattle.std.proofs.Common.{◌-◌, get_or, set, ap, ◌∙◌}
 use Rattle.pools.proofs.Equations.{reads_last}
 use Rattle.pools.proofs.pool.judge.key_form.Goals as goal
 
 pub returns : goal.returns
-returns c = record {
-  reads = λ k l. ap (λ xs. get_or (set xs (c.args.top - 1) 1) k 0) c.default-form.ensures ∙ reads_last 32 c.args.top c.requires.0 c.requires.1 k l;
-}
+returns c = record { reads = λ k l. rw c.default-form.ensures (reads_last 32 c.args.top c.requires.0 c.requires.1 k l) }

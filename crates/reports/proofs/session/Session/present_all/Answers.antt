@@ -1,79 +1,45 @@
-use Rattle.std.proofs.Common.{◌≡◌, ◌+◌, ◌-◌, ◌≤◌, ◌++◌, length, Ok, sym, refl, ap, ◌∙◌, arith}
-use Rattle.pools.specs.Sessions.{present, step, refuses_card}
+use Rattle.std.proofs.Common.{◌≡◌, ◌-◌, ◌≤◌, Ok, sym, ap, ◌∙◌, arith}
 use Rattle.trays.specs.Answers.{answer}
 use Rattle.trays.specs.Layout.{card_size}
-use Rattle.reports.specs.Runs.{card_in, told, turned_by}
-use Rattle.reports.proofs.Cards.{card_next, end_next, card_first, so_far_none, so_far_more}
-use Rattle.reports.proofs.Openings.{nothing, to_come}
+use Rattle.reports.proofs.Cards.{card_next, end_next, card_first, so_far_more}
+use Rattle.reports.proofs.Openings.{nothing, part_to_come, at_one}
 use Rattle.reports.proofs.Said.{card_said}
-use Rattle.trays.proofs.Orders.{reader_one_way}
 use Rattle.reports.proofs.session.Session.present_all.Goals as goal
-
-pub loop-i-init : goal.loop-i-init
-loop-i-init g c =
-    let pool = c.args.self.now.pool in
-    record {
-      few = omega (arith, ap length c.requires.fresh.1);
-      frame = (refl, refl, refl);
-      so_far = λ ps e r. so_far_none (g.F.Field.arithmetic pool.field) pool.policy pool.words c.args.cards pool.list c.args.self.now.refused.items c.args.reader.now ps e c.requires.fresh.0 c.requires.fresh.1 r (c.requires.coming ps e r);
-    }
 
 pub part-requires : goal.part-requires
 part-requires g c =
-    let all = reader_one_way c.args.reader.now in
-    let so = c.loop-i.invariant.so_far all.0 all.1 all.2 in
-    to_come c.loop-i.reader (λ w e. let none : c.args.cards - c.loop-i.i ≡ 0 = cc in omega (arith, c.loop-i-test.true, none)) so.left so.to_come.2
+    let (ps, e, so) = at_one c.args.reader.now c.loop-i.invariant.so_far in
+    part_to_come c.loop-i.reader (λ w e. let none : c.args.cards - c.loop-i.i ≡ 0 = cc in omega (arith, c.loop-i-test.true, none)) so.left so.to_come.2
 
 pub unreachable-requires : goal.unreachable-requires
 unreachable-requires g c =
-    let all = reader_one_way c.args.reader.now in
-    let so = c.loop-i.invariant.so_far all.0 all.1 all.2 in
+    let (ps, e, so) = at_one c.args.reader.now c.loop-i.invariant.so_far in
     let some : 1 ≤ c.args.cards - c.loop-i.i = omega (arith, c.loop-i-test.true) in
-    let found = card_next c.in_ok-bytes.field-0 so.to_come.2 some (c.in_ok-bytes.ensures.reads so.others all.1 so.left).0 in
+    let found = card_next c.in_ok-bytes.field-0 so.to_come.2 some (c.in_ok-bytes.ensures.reads so.others e so.left).0 in
     c.in_default.not-Card found.0 found.1 found.2
 
-pub present-requires : goal.present-requires
-present-requires g c =
-    let all = reader_one_way c.args.reader.now in
-    let so = c.loop-i.invariant.so_far all.0 all.1 all.2 in
-    let is = card_said c.loop-i.reader c.part.new.reader c.in_ok-bytes.field-0 c.in-Card.bytes c.in-Card.offset c.in-Card.is c.in_ok-bytes.ensures.reads so.others all.1 so.left in
-    record {
-      long = (card_first c.in-Card.bytes.now c.in-Card.offset _ so.to_come.2 is).0 ∙ ap card_size (sym c.loop-i.invariant.frame.2);
-      room = (omega (arith, c.loop-i.invariant.few, c.loop-i-test.true, c.ranges.cards), omega (arith, c.loop-i-test.true, c.ranges.cards));
-    }
+pub present-requires-clause-long : goal.present-requires-clause-long
+present-requires-clause-long g c =
+    let (ps, e, so) = at_one c.args.reader.now c.loop-i.invariant.so_far in
+    let is = card_said c.loop-i.reader c.part.new.reader c.in-Card.is c.in_ok-bytes.ensures.reads so.others e so.left in
+    (card_first so.to_come.2 is).0 ∙ ap card_size (sym c.loop-i.invariant.frame.2)
 
 pub loop-i-preserved : goal.loop-i-preserved
 loop-i-preserved g c =
     let pool = c.args.self.now.pool in
-    let now_pool = c.loop-i.self.pool in
-    let arithmetic = g.F.Field.arithmetic in
-    let F = arithmetic pool.field in
     let frame = c.loop-i.invariant.frame in
-    let new_frame = c.present.ensures.frame in
-    let s = now_pool.list in
-    let bytes = c.in-Card.bytes.now in
-    let before = turned_by c.loop-i.self.refused.items in
+    let kept = c.present.ensures.frame in
     record {
       few = omega (arith, c.present.ensures.counted, c.loop-i.invariant.few);
-      frame = (new_frame.0 ∙ frame.0, new_frame.1 ∙ frame.1, new_frame.2 ∙ frame.2);
+      frame = (kept.0 ∙ frame.0, kept.1 ∙ frame.1, kept.2 ∙ frame.2);
       so_far = λ ps e r.
-          so_far_more F pool.policy pool.words c.args.cards c.loop-i.i s c.present.new.self.pool.list c.loop-i.self.refused.items c.present.new.self.refused.items c.loop-i.reader c.part.new.reader ps e c.in-Card.bytes c.in-Card.offset c.in_ok-bytes.field-0
-          c.in-Card.is c.in_ok-bytes.ensures.reads
-          (c.present.ensures.list
-          ∙ ap (λ x. step (arithmetic x) now_pool.policy now_pool.words s (present (card_in now_pool.words bytes))) frame.0
-          ∙ ap (λ x. step F x now_pool.words s (present (card_in now_pool.words bytes))) frame.1
-          ∙ ap (λ x. step F pool.policy x s (present (card_in x bytes))) frame.2)
-          (c.present.ensures.refusals
-          ∙ ap (λ x. before ++ told (c.loop-i.i + 1) c.in-Card.offset (refuses_card (arithmetic x) now_pool.policy now_pool.words s.held (card_in now_pool.words bytes))) frame.0
-          ∙ ap (λ x. before ++ told (c.loop-i.i + 1) c.in-Card.offset (refuses_card F x now_pool.words s.held (card_in now_pool.words bytes))) frame.1
-          ∙ ap (λ x. before ++ told (c.loop-i.i + 1) c.in-Card.offset (refuses_card F pool.policy x s.held (card_in x bytes))) frame.2)
-          (c.loop-i.invariant.so_far ps e r);
+          so_far_more (g.F.Field.arithmetic pool.field) pool.policy pool.words c.in-Card.is c.in_ok-bytes.ensures.reads
+          (rw (frame.0, frame.1, frame.2) at c.present.ensures.list) (rw (frame.0, frame.1, frame.2) at c.present.ensures.refusals) (c.loop-i.invariant.so_far ps e r);
     }
 
 pub unreachable-requires-in_default-2 : goal.unreachable-requires-in_default-2
 unreachable-requires-in_default-2 g c =
-    let all = reader_one_way c.args.reader.now in
-    let so = c.loop-i.invariant.so_far all.0 all.1 all.2 in
+    let (ps, e, so) = at_one c.args.reader.now c.loop-i.invariant.so_far in
     let none : c.args.cards - c.loop-i.i ≡ 0 = omega (arith, c.loop-i-test.false) in
-    let said = (c.in_ok-next.ensures.reads so.others all.1 so.left).0 in
-    c.in_default-2.not-None (nothing c.in_ok-next.field-0 (λ i e. end_next i so.to_come.2 none (sym (ap (λ o. answer (Ok o)) e) ∙ said)))
+    let said = (c.in_ok-next.ensures.reads so.others e so.left).0 in
+    c.in_default-2.not-None (nothing c.in_ok-next.field-0 (λ i is. end_next i so.to_come.2 none (sym (ap (λ o. answer (Ok o)) is) ∙ said)))
