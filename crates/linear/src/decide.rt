@@ -2,7 +2,7 @@
 ghost use Rattle.std.specs.Prelude.{◌≡◌, List};
 ghost use Rattle.linear.specs.Solutions.{Decides, SameMembers};
 
-use crate::equation::{Equation, Form};
+use crate::equation::{Equation, Form, MOST_RIGHT_SIDES};
 use crate::shape::Shape;
 use crate::system::System;
 use fields::Field;
@@ -16,14 +16,14 @@ pub enum Decision {
     // Every value of the form is possible.
     Open,
     // Every solution gives the form these values, one for each right side; 0 past them.
-    Decided([u32; 16]),
+    Decided([u32; MOST_RIGHT_SIDES]),
 }
 
 // Says what the equations tell of the form.
 pub fn decide<F: Field>(field: &F, shape: Shape, equations: &[Equation], form: &Form) -> Decision
-    ensures right { Decides (F.Field.arithmetic field.now) shape.unknowns shape.right_sides equations.now form.now result }
-    ensures only { (d : Decision) → Decides (F.Field.arithmetic field.now) shape.unknowns shape.right_sides equations.now form.now d → d ≡ result }
-    ensures in_any_order { (others : List Equation) → SameMembers equations.now others → Decides (F.Field.arithmetic field.now) shape.unknowns shape.right_sides others form.now result }
+    ensures right { Decides (F.arithmetic field.now) shape.unknowns shape.right_sides equations.now form.now result }
+    ensures only { (d : Decision) → Decides (F.arithmetic field.now) shape.unknowns shape.right_sides equations.now form.now d → d ≡ result }
+    ensures in_any_order { (others : List Equation) → SameMembers equations.now others → Decides (F.arithmetic field.now) shape.unknowns shape.right_sides others form.now result }
 {
     System { field, shape }.eliminate(equations, form)
 }

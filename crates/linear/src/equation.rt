@@ -1,5 +1,6 @@
 // Linear equations and linear forms. Every number is read as the element that it stands for, its remainder by the
-// field's size; the places past the shape are not looked at.
+// field's size; the places past the shape are not looked at. They are arrays with room for the most, so that no call can want
+// for memory.
 ghost use Rattle.std.specs.Prelude.{◌≡◌, length, replicate};
 
 // How many unknowns and right sides there is room for.
@@ -16,7 +17,7 @@ pub struct Equation {
     ghost sides: { length right_sides ≡ 16 },
 }
 
-// Nothing of any unknown is zero.
+// Nothing of any unknown is zero. By hand, here and below: a derive gives no `default` to a type with clauses of its own.
 impl Default for Equation {
     ghost is_default = { λ e. (e.coefficients ≡ replicate 32 0) × (e.right_sides ≡ replicate 16 0) };
 

@@ -14,7 +14,7 @@ pub(crate) struct System<'a, F> {
     pub(crate) shape: Shape,
 }
 
-// That no values satisfy an equation and those before it.
+// That no values satisfy an equation and those before it. A decision would be no plainer: a row tells nothing of a form.
 #[derive(Clone, Copy, Debug, PartialEq, Eq)]
 pub(crate) struct Contradiction;
 
@@ -42,7 +42,7 @@ impl<'a, F: Field> System<'a, F> {
             factor,
             &pivot.coefficients[column..],
         );
-        // From 0: the check has no rule for an open range in a field behind a reference.
+        // From 0, here and below: the check has no rule for an open range in a field behind a reference.
         self.add_multiple(
             &mut row.right_sides[0..self.right_sides()],
             factor,

@@ -42,11 +42,12 @@ impl<F: Field> Session<F> {
             .pool
             .present(card.level, card.id, &values[..words as usize]);
         if let Err(refusal) = presented {
-            self.refused.push(RefusedCard {
+            let turned_away = RefusedCard {
                 ordinal: index + 1,
                 offset,
                 refusal,
-            });
+            };
+            self.refused.push(turned_away);
         }
     }
 
