@@ -76,7 +76,7 @@ counted c =
     words_read c.part-3.new.reader c.in_ok-words.field-0 c.in_ok-words.ensures.reads so.1 c.in-Words.words c.in-Words.is
 
 pub word_count-words-requires : goal.word_count-words-requires
-word_count-words-requires c = let so = counted c in (so.0, so.1)
+word_count-words-requires c = let so = counted c in (omega (arith, so.0), omega (arith, so.1))
 
 pub part-requires-4 : goal.part-requires-4
 part-requires-4 c = to_come (counted (goal.at.part-requires-4 c).In-Words).2 (λ w e. cc)
