@@ -42,12 +42,10 @@ fn issue<F: Field>(
     values: &mut [u32],
 ) -> Result<(), Refusal> {
     let mut copies = [0; 64];
-    for (copy, coefficient) in copies.iter_mut().zip(coefficients) {
-        *copy = *coefficient;
-    }
     let count = coefficients.len().min(64);
+    copies[..count].copy_from_slice(&coefficients[..count]);
     let opened = OpenedDealing::new(Policy::new(thresholds)?, WordCount::new(words)?);
-    let loaded = opened.load(&mut copies[0..count]);
+    let loaded = opened.load(&mut copies[..count]);
     loaded.issue(field, level, id, values)?;
     loaded.end();
     Ok(())

@@ -102,7 +102,7 @@ fn a_session_in_the_byte_field(rt: HostRuntime) -> Result<(), Fail> {
         Request::TurnedAway,
         Request::Held,
     ];
-    let mut replies = [Ok(Reply::Number(77)); 6];
+    let mut replies = [Ok(Reply::Judged(Judgement::Open)); 6];
     run_session(ByteField, policy, words, &requests, &mut replies);
     assert_eq!(rt; replies[0], Ok(Reply::Done));
     assert_eq!(rt; replies[1], Err(Refusal::IdAlreadyHeld));

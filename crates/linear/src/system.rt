@@ -1,5 +1,6 @@
 // A field and a shape, and what is done with a row of this shape over this field. Clearing and scaling start at a column
-// before which the coefficients stand for zero.
+// before which the coefficients stand for zero. Statements about rows name the arithmetic and the two numbers, since they
+// know no system.
 ghost use Rattle.std.specs.Prelude.{◌≡◌, ◌<◌};
 ghost use Rattle.linear.specs.Rows.{Cleared, Scaled, Leftover, Reading};
 

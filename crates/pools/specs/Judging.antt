@@ -2,8 +2,10 @@
 --   verdict_of  a judgement that holds the key, as a verdict
 --   told        the answer of a judging that writes the key into a buffer
 --   Kept        the buffer is as it was, unless a key was given
+--   words_text, verdict_text   numbers, each after a space; a judgement in words, as bytes
 -- Assumes nothing.
-use Rattle.std.specs.Prelude.{◌≡◌, ℕ, List, Ok, Err, Result}
+use Rattle.std.specs.Prelude.{◌≡◌, ℕ, List, ◌++◌, Ok, Err, codes, decimal, Result}
+use Rattle.std.specs.List.{flat_map}
 use Rattle.sharing.specs.Refusals as refusals
 use Rattle.sharing.specs.declared.refusal.Refusal.{Refusal}
 use Rattle.pools.specs.Sessions.{Answer, verdict, refused_by}
@@ -27,3 +29,11 @@ Kept (Ok Contradictory) before after = after ≡ before
 Kept (Ok Open) before after = after ≡ before
 Kept (Ok (Key _)) before after = Unit {0}
 Kept (Err e) before after = after ≡ before
+
+abbrev pub words_text : List ℕ → List ℕ
+words_text words = flat_map (λ v. codes " " ++ decimal v) words
+
+abbrev pub verdict_text : Judgement (List ℕ) → List ℕ
+verdict_text Contradictory = codes "contradictory"
+verdict_text Open = codes "open"
+verdict_text (Key k) = codes "key" ++ words_text k

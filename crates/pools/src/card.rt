@@ -1,4 +1,4 @@
-// A card as a pool holds it. Its default stands in the places of a pool that are not used.
+// A card as a pool holds it, in fixed memory. Its default stands in the places of a pool that are not used.
 use arrayvec::ArrayVec;
 use sharing::words::MOST_WORDS;
 use std::marker::Model;

@@ -50,7 +50,7 @@ fn judged<F: Field>(pool: &Pool<F>, key_length: usize) -> Result<Reply, Refusal>
     Ok(Reply::Judged(pool.verdict()))
 }
 
-// Makes one request. A request is a value that can be copied and compared, which a closure in its place could not be.
+// Makes one request. A request is a value that can be listed and copied; a closure in its place could be neither.
 fn one<F: Field>(pool: &mut Pool<F>, request: Request) -> Result<Reply, Refusal>
     ensures list { Steps F.arithmetic pool.old (called request.entry) pool.new }
     ensures frame { Frame pool.old pool.new }
@@ -85,7 +85,8 @@ pub fn run_session<F: Field + Drop>(
     ensures rest { drop (min (length requests.now) (length replies.old)) replies.new ≡ drop (min (length requests.now) (length replies.old)) replies.old }
 {
     let mut pool = Pool::new(field, policy, words);
-    // Tried, and the proof did not close: `requests.iter().zip(replies.iter_mut())`, whose writes the check knows nothing of.
+    // Tried, and the proof did not close: `requests.iter().zip(replies.iter_mut())`, of whose writes the check knows nothing.
+    // A loop over the places of one list would index the other all the same.
     for i in 0..requests.len().min(replies.len()) {
         replies[i] = one(&mut pool, requests[i]);
     }

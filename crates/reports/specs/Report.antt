@@ -3,8 +3,7 @@
 --   header_line       the first line: what the tray says before its cards
 --   refused_line      a card that the pool turned away
 --   counts_line       how many cards are held, and how many were turned away
---   words_text        numbers, each after a space
---   verdict_line      the verdict; a key with its words after single spaces
+--   verdict_line      the line of the verdict
 --   layer_name        who refused, as a word
 --   fault_line        what stopped a run, by its number, who refused, and where
 --   header_text, conclusion_text   the first line if there is one; the counts and the verdict, or the fault
@@ -14,7 +13,7 @@ use Rattle.std.specs.Prelude.{ℕ, List, [], ◌∷◌, ◌++◌, Some, None, Ok
 use Rattle.std.specs.List.{flat_map}
 use Rattle.sharing.specs.Refusals.{number}
 use Rattle.pools.specs.declared.judgement.Judgement.{Judgement}
-use Rattle.pools.specs.declared.judgement.Judgement.TheVariants as judgement
+use Rattle.pools.specs.Judging.{verdict_text}
 use Rattle.trays.specs.Fields.{field_number}
 use Rattle.reports.specs.declared.report.Header.{Header}
 use Rattle.reports.specs.declared.report.Judged.{Judged}
@@ -38,13 +37,8 @@ refused_line c =
 abbrev pub counts_line : ℕ → ℕ → List ℕ
 counts_line held turned = codes "held " ++ (decimal held ++ (codes " turned " ++ (decimal turned ++ newline)))
 
-abbrev pub words_text : List ℕ → List ℕ
-words_text words = flat_map (λ v. codes " " ++ decimal v) words
-
 abbrev pub verdict_line : Judgement (List ℕ) → List ℕ
-verdict_line judgement.Contradictory = codes "contradictory" ++ newline
-verdict_line judgement.Open = codes "open" ++ newline
-verdict_line (judgement.Key k) = codes "key" ++ (words_text k ++ newline)
+verdict_line j = verdict_text j ++ newline
 
 abbrev pub layer_name : Layer → List ℕ
 layer_name layer.Reader = codes "reader"

@@ -3,6 +3,7 @@
 --   PartToCome    a part is to come from a reader, or a fault
 --   found         a part that was found, or a fault, as what a request gave
 --   ToCome        these cards are to come, and then this ending
+--   CardsToCome   so many cards are to come from a reader, or a fault
 --   OpensAs       a tray opens so, and these cards are to come from the reader
 --   OpensTo       what reading up to the cards gives
 --   ReadyTo       a reader that was brought before the cards has them to come
@@ -34,6 +35,9 @@ found (Err f) = Err f
 abbrev pub ToCome : ℕ → ℕ → List Placed → Ending → Type 0
 ToCome w n cards e = (at : ℕ) × (bytes : List ℕ) × Reads (at_cards w n) at bytes cards e
 
+abbrev pub CardsToCome : TrayReader → ℕ → ℕ → Type 0
+CardsToCome t w n = (ps : List Placed) (e : Ending) → Reading t ps e → ToCome w n ps e
+
 pub record OpensAs (o : Opening) (t : TrayReader) (parts : List Placed) (e : Ending) (cards : List Placed) : Type 0 where
   pub parts_are : parts ≡ opening (field_number o.field) o.policy o.words o.cards ++ cards
   pub fits : refuses_policy o.policy ≡ None
@@ -44,7 +48,7 @@ OpensTo (Ok o) t parts e = (cards : List Placed) × OpensAs o t parts e cards
 OpensTo (Err s) t parts e = StopsEarly parts e s
 
 abbrev pub ReadyTo : Result Opening Stop → TrayReader → Type 0
-ReadyTo (Ok o) t = (ps : List Placed) (e : Ending) → Reading t ps e → ToCome o.words o.cards ps e
+ReadyTo (Ok o) t = CardsToCome t o.words o.cards
 ReadyTo (Err s) t = Unit {0}
 
 abbrev pub PresentsTo : Result (Unit {0}) Stop → Ending → Type 0

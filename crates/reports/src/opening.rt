@@ -14,7 +14,7 @@ use trays::field::TrayField;
 use trays::item::{Fault, Item};
 use trays::reader::TrayReader;
 
-// What a tray says before its cards.
+// What a tray says before its cards, with all that a pool is made of.
 #[derive(Clone, Copy)]
 pub(crate) struct Opening {
     pub(crate) field: TrayField,
@@ -59,7 +59,7 @@ fn policy_at(levels: &[u8], offset: usize) -> Result<Policy, Stop>
     })
 }
 
-// The number of words that a tray may have.
+// The number of words that a tray may have. A reader's answer holds it as a number, for which its own reason stands there.
 fn word_count(words: u8) -> WordCount
     requires { (1 ≤ words) × (words ≤ 16) }
     ensures { result ≡ words }

@@ -9,7 +9,7 @@ use sharing::refusal::Refusal;
 use sharing::words::WordCount;
 use trays::field::TrayField;
 
-// What a tray says before its cards.
+// What a tray says before its cards, as a report tells it: the policy is told by its number of levels.
 #[derive(Clone, Copy)]
 pub struct Header {
     pub field: TrayField,
@@ -26,7 +26,7 @@ pub struct RefusedCard {
     pub refusal: Refusal,
 }
 
-// What stands in an unused place.
+// What stands in an unused place. By hand: a refusal has no default.
 impl Default for RefusedCard {
     ghost is_default = { λ c. c ≡ record { ordinal = 0; offset = 0; refusal = refusal.TrayEndsEarly } };
 
@@ -40,7 +40,7 @@ impl Default for RefusedCard {
 }
 
 // How many cards a tray may have.
-pub const MOST_CARDS: usize = 255;
+pub const MOST_TRAY_CARDS: usize = 255;
 
 // Who stopped a run.
 #[derive(Clone, Copy)]
@@ -70,6 +70,6 @@ pub struct Judged {
 #[derive(Drop)]
 pub struct TrayReport {
     pub header: Option<Header>,
-    pub refused: ArrayVec<RefusedCard, MOST_CARDS>,
+    pub refused: ArrayVec<RefusedCard, MOST_TRAY_CARDS>,
     pub conclusion: Result<Judged, Stop>,
 }

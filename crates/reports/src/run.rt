@@ -3,7 +3,7 @@ ghost use Rattle.std.specs.Prelude.{◌≡◌, List, [], length, Some};
 ghost use Rattle.trays.specs.Answers.{Reading};
 ghost use Rattle.trays.specs.Layout.{Placed, Ending, at_field, Reads};
 ghost use Rattle.reports.specs.Runs.{Concludes, Reports, turned_by, turned_from};
-ghost use Rattle.reports.specs.Steps.{ToCome};
+ghost use Rattle.reports.specs.Steps.{CardsToCome};
 
 use crate::opening::{Opening, open};
 use crate::report::{Header, TrayReport};
@@ -18,7 +18,7 @@ use trays::reader::TrayReader;
 
 // Runs the cards of a tray over a field.
 fn run_cards<F: Field + Drop>(field: F, opening: Opening, reader: &mut TrayReader) -> TrayReport
-    requires { (ps : List Placed) (e : Ending) → Reading reader.old ps e → ToCome opening.words opening.cards ps e }
+    requires { CardsToCome reader.old opening.words opening.cards }
     ensures header { result.header ≡ Some (record { field = opening.field; levels = length opening.policy; words = opening.words; cards = opening.cards }) }
     ensures refusals { (ps : List Placed) (e : Ending) → Reading reader.old ps e → turned_by result.refused.items ≡ turned_from (F.arithmetic field) opening.policy opening.words [] ps }
     ensures concludes { (ps : List Placed) (e : Ending) → Reading reader.old ps e → Concludes (F.arithmetic field) opening.policy opening.words ps e result.conclusion }
@@ -36,6 +36,7 @@ fn run_cards<F: Field + Drop>(field: F, opening: Opening, reader: &mut TrayReade
         refused: ArrayVec::new(),
     };
     let conclusion = session.run(reader, opening.cards);
+    // Taken, and not moved: a session is dropped whole.
     TrayReport {
         header: Some(header),
         refused: session.refused.take(),

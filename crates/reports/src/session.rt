@@ -5,10 +5,10 @@ ghost use Rattle.pools.specs.Sessions.{none_yet, present, step, refuses_card};
 ghost use Rattle.trays.specs.Answers.{Reading};
 ghost use Rattle.trays.specs.Layout.{Placed, Ending, card_size};
 ghost use Rattle.reports.specs.Runs.{Concludes, Judges, card_in, list_after, told, turned_by, turned_from};
-ghost use Rattle.reports.specs.Steps.{PresentsTo, ToCome};
+ghost use Rattle.reports.specs.Steps.{CardsToCome, PresentsTo};
 
 use crate::opening::part;
-use crate::report::{Judged, MOST_CARDS, RefusedCard, Stop};
+use crate::report::{Judged, MOST_TRAY_CARDS, RefusedCard, Stop};
 use arrayvec::ArrayVec;
 use fields::Field;
 use pools::pool::Pool;
@@ -20,7 +20,7 @@ use trays::reader::TrayReader;
 #[derive(Drop)]
 pub(crate) struct Session<F: Field> {
     pub(crate) pool: Pool<F>,
-    pub(crate) refused: ArrayVec<RefusedCard, MOST_CARDS>,
+    pub(crate) refused: ArrayVec<RefusedCard, MOST_TRAY_CARDS>,
 }
 
 impl<F: Field> Session<F> {
@@ -54,7 +54,7 @@ impl<F: Field> Session<F> {
     // Presents the cards that are to come, in order, up to the end or a fault.
     pub(crate) fn present_all(&mut self, reader: &mut TrayReader, cards: u8) -> Result<(), Stop>
         requires fresh { (self.old.pool.list ≡ none_yet) × (self.old.refused.items ≡ []) }
-        requires coming { (ps : List Placed) (e : Ending) → Reading reader.old ps e → ToCome self.old.pool.words cards ps e }
+        requires coming { CardsToCome reader.old self.old.pool.words cards }
         ensures frame { Frame self.old.pool self.new.pool }
         ensures all { (ps : List Placed) (e : Ending) → Reading reader.old ps e → (turned_by self.new.refused.items ≡ turned_from (F.arithmetic self.old.pool.field) self.old.pool.policy self.old.pool.words [] ps) × (self.new.pool.list ≡ list_after (F.arithmetic self.old.pool.field) self.old.pool.policy self.old.pool.words ps) × PresentsTo result e }
     {
@@ -82,7 +82,7 @@ impl<F: Field> Session<F> {
     // Presents the cards that are to come, and judges them at the end.
     pub(crate) fn run(&mut self, reader: &mut TrayReader, cards: u8) -> Result<Judged, Stop>
         requires fresh { (self.old.pool.list ≡ none_yet) × (self.old.refused.items ≡ []) }
-        requires coming { (ps : List Placed) (e : Ending) → Reading reader.old ps e → ToCome self.old.pool.words cards ps e }
+        requires coming { CardsToCome reader.old self.old.pool.words cards }
         ensures refusals { (ps : List Placed) (e : Ending) → Reading reader.old ps e → turned_by self.new.refused.items ≡ turned_from (F.arithmetic self.old.pool.field) self.old.pool.policy self.old.pool.words [] ps }
         ensures concludes { (ps : List Placed) (e : Ending) → Reading reader.old ps e → Concludes (F.arithmetic self.old.pool.field) self.old.pool.policy self.old.pool.words ps e result }
     {

@@ -3,7 +3,6 @@ ghost use Rattle.std.specs.Prelude.{◌≡◌, ◌++◌, IfOk, Some, string_byte
 ghost use Rattle.reports.specs.Report.{counts_line, fault_line, header_line, layer_name, refused_line, report_text, verdict_line};
 
 use crate::report::{Header, Judged, Layer, RefusedCard, Stop, TrayReport};
-use pools::judgement::Judgement;
 use std::alloc::Global;
 use std::fmt;
 
@@ -61,23 +60,16 @@ impl fmt::Display for Stop {
     }
 }
 
-// The counts and the verdict; a key's words stand each after a space.
+// The counts and the verdict.
 impl fmt::Display for Judged {
     ghost output = { λ j. Some (counts_line j.held j.turned ++ verdict_line j.verdict) };
 
     fn fmt<W: fmt::Write>(&self, f: &mut fmt::Formatter<W>) -> fmt::Result {
-        write!(f, "held {} turned {}\n", self.held, self.turned)?;
-        match self.verdict {
-            Judgement::Contradictory => write!(f, "contradictory\n"),
-            Judgement::Open => write!(f, "open\n"),
-            Judgement::Key(key) => {
-                write!(f, "key")?;
-                for word in key.as_slice() {
-                    write!(f, " {word}")?;
-                }
-                write!(f, "\n")
-            }
-        }
+        write!(
+            f,
+            "held {} turned {}\n{}\n",
+            self.held, self.turned, self.verdict
+        )
     }
 }
 

@@ -99,7 +99,8 @@ impl LoadedDealing<'_> {
 }
 
 impl Drop for LoadedDealing<'_> {
-    // A dealing that is let go ends as well.
+    // A dealing that is let go ends as well. Tried, and refused: `end` as no more than letting go, whose promise names what
+    // stands in the buffer afterwards.
     fn drop(self)
         ensures { self.exit.0.now ≡ replicate (length self.entry.coefficients.now) 0 }
     {

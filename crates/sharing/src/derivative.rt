@@ -1,4 +1,6 @@
-// The values on a card: derivatives of the polynomials that a key's words are hidden in.
+// The values on a card, which are derivatives of the polynomials that a key's words are hidden in, and by what a value
+// multiplies each coefficient. The two go the same way over the places, and are no plainer as one: the first sums and has no
+// list of multipliers to keep.
 ghost use Rattle.std.specs.Prelude.{◌≡◌, ◌+◌, ◌*◌, ◌≤◌, length, slice_index};
 ghost use Rattle.sharing.specs.Cards.{derivative, row, top, order};
 ghost use Rattle.sharing.specs.Multipliers.{MultipliesTo};

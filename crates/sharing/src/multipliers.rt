@@ -6,7 +6,8 @@ use crate::derivative::Derivative;
 use crate::policy::Policy;
 use fields::Field;
 
-// By what the coefficients of a word are multiplied in its value on a card of this level and id; zeros past them.
+// By what the coefficients of a word are multiplied in its value on a card of this level and id; zeros past them,
+// in fixed memory.
 pub fn multipliers<F: Field>(
     field: &F,
     policy: Policy,

@@ -11,7 +11,7 @@ const MOST_LEVELS: usize = 8;
 const LARGEST_THRESHOLD: u8 = 32;
 
 // A policy: one to eight levels, counted from 0, with a threshold each, from 1 to 32 and each above the one before it. The
-// first `count` places hold them, and zeros follow: an array, since an `ArrayVec` is no `Copy`.
+// first `count` places hold them, and zeros follow: an array in fixed memory, since an `ArrayVec` is no `Copy`.
 #[derive(Clone, Copy)]
 pub struct Policy {
     thresholds: [u8; MOST_LEVELS],

@@ -26,12 +26,13 @@ pub enum Refusal {
 }
 
 impl Refusal {
-    // The number that reports and users know the refusal by.
+    // The number that reports and users know the refusal by: a name says more than a conversion would.
     pub fn number(self) -> u8
         ensures { result ≡ number self }
     {
         self as u8
     }
+
     // The refusal in words.
     pub fn sentence(self) -> &'static str
         ensures { result.now ≡ sentence self }

@@ -9,7 +9,8 @@ pub struct Fault {
     pub offset: usize,
 }
 
-// A part of a tray. Thresholds and a card are lent bytes of the tray, with the offset of their first.
+// A part of a tray. Thresholds and a card are lent bytes of the tray, with the offset of their first; bytes do not tell where
+// they stand.
 #[derive(Clone, Copy)]
 pub enum Item<'a> {
     Field(TrayField),

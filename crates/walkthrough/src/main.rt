@@ -6,7 +6,6 @@ ghost use Rattle.std.specs.Prelude.{◌≡◌, length, replicate};
 
 use fields::prime::WIDE_FIELD;
 use pools::judgement::Judgement;
-use pools::key::Key;
 use pools::pool::Pool;
 use pools::session::{Reply, Request, run_session};
 use sharing::dealing::{LoadedDealing, OpenedDealing};
@@ -49,7 +48,7 @@ fn role(level: u8) -> &'static str {
 
 // Numbers that anybody can work out again. A real dealer draws them at random and tells nobody.
 fn sample_coefficients() -> [u32; COEFFICIENTS] {
-    array::from_fn(|i| (7919 * (i as u32 % 40) + 11) % 65537)
+    array::from_fn(|i| (7919 * (i as u32 % COEFFICIENTS as u32) + 11) % 65537)
 }
 
 fn issue_one(dealing: &LoadedDealing, id: u32) -> Result<IssuedCard, Refusal> {
@@ -103,94 +102,56 @@ fn presenting(cards: &[IssuedCard; PEOPLE], id: usize) -> Request<'_> {
     }
 }
 
-fn tell_judgement(rt: &HostRuntime, judgement: Judgement<Key>) -> anyhow::Result<()> {
-    match judgement {
-        Judgement::Contradictory => println!(rt; "contradictory")?,
-        Judgement::Open => println!(rt; "open")?,
-        Judgement::Key(key) => {
-            print!(rt; "key")?;
-            for word in key.as_slice() {
-                print!(rt; " {word}")?;
-            }
-            println!(rt; "")?;
-        }
-    }
-    Ok(())
-}
-
 fn tell(rt: &HostRuntime, asked: &str, reply: Result<Reply, Refusal>) -> anyhow::Result<()> {
     print!(rt; "  {asked}: ")?;
     match reply {
         Ok(Reply::Done) => println!(rt; "done")?,
         Ok(Reply::Number(number)) => println!(rt; "{number}")?,
         Ok(Reply::Truth(met)) => println!(rt; "{met}")?,
-        Ok(Reply::Judged(judgement)) => tell_judgement(rt, judgement)?,
+        Ok(Reply::Judged(judgement)) => println!(rt; "{judgement}")?,
         Err(refusal) => println!(rt; "refused, {refusal}")?,
     }
     Ok(())
 }
 
-const REQUESTS: usize = 23;
+const STEPS: usize = 23;
 
-// What is asked at each step of the sitting, in words.
-const ASKED: [&str; REQUESTS] = [
-    "director 1",
-    "director 8",
-    "are these enough by their number",
-    "the key",
-    "manager 2",
-    "manager 3",
-    "manager 5",
-    "manager 7",
-    "manager 9",
-    "manager 11",
-    "manager 12",
-    "manager 13",
-    "are these enough by their number",
-    "the key",
-    "director 4",
-    "the key",
-    "director 6, with a false value",
-    "the key",
-    "withdraw card 6",
-    "the key",
-    "director 1 once more",
-    "cards held",
-    "cards turned away",
-];
+// A step of the sitting: what is asked, in words, and the request.
+type Step<'a> = (&'static str, Request<'a>);
 
 // Too few cards; ten that are enough by their number and still leave the key open; one that decides; a false card, which
 // contradicts the others and is withdrawn; and one that is turned away.
-fn script<'a>(cards: &'a [IssuedCard; PEOPLE], false_values: &'a [u32]) -> [Request<'a>; REQUESTS] {
+fn script<'a>(cards: &'a [IssuedCard; PEOPLE], false_values: &'a [u32]) -> [Step<'a>; STEPS] {
     let judge = Request::Judge { key_length: WORDS };
+    let false_card = Request::Present {
+        level: 0,
+        id: 6,
+        values: false_values,
+    };
     [
-        presenting(cards, 1),
-        presenting(cards, 8),
-        Request::MeetsPolicy,
-        judge,
-        presenting(cards, 2),
-        presenting(cards, 3),
-        presenting(cards, 5),
-        presenting(cards, 7),
-        presenting(cards, 9),
-        presenting(cards, 11),
-        presenting(cards, 12),
-        presenting(cards, 13),
-        Request::MeetsPolicy,
-        judge,
-        presenting(cards, 4),
-        judge,
-        Request::Present {
-            level: 0,
-            id: 6,
-            values: false_values,
-        },
-        judge,
-        Request::Withdraw { id: 6 },
-        judge,
-        presenting(cards, 1),
-        Request::Held,
-        Request::TurnedAway,
+        ("director 1", presenting(cards, 1)),
+        ("director 8", presenting(cards, 8)),
+        ("are these enough by their number", Request::MeetsPolicy),
+        ("the key", judge),
+        ("manager 2", presenting(cards, 2)),
+        ("manager 3", presenting(cards, 3)),
+        ("manager 5", presenting(cards, 5)),
+        ("manager 7", presenting(cards, 7)),
+        ("manager 9", presenting(cards, 9)),
+        ("manager 11", presenting(cards, 11)),
+        ("manager 12", presenting(cards, 12)),
+        ("manager 13", presenting(cards, 13)),
+        ("are these enough by their number", Request::MeetsPolicy),
+        ("the key", judge),
+        ("director 4", presenting(cards, 4)),
+        ("the key", judge),
+        ("director 6, with a false value", false_card),
+        ("the key", judge),
+        ("withdraw card 6", Request::Withdraw { id: 6 }),
+        ("the key", judge),
+        ("director 1 once more", presenting(cards, 1)),
+        ("cards held", Request::Held),
+        ("cards turned away", Request::TurnedAway),
     ]
 }
 
@@ -200,11 +161,12 @@ fn sitting(
     words: WordCount,
     cards: &[IssuedCard; PEOPLE],
 ) -> anyhow::Result<()> {
-    let requests = script(cards, &[1, 2]);
-    let mut replies = [Ok(Reply::Done); REQUESTS];
+    let steps = script(cards, &[1, 2]);
+    let requests = steps.map(|(_, request)| request);
+    let mut replies = [Ok(Reply::Done); STEPS];
     run_session(WIDE_FIELD, policy, words, &requests, &mut replies);
     println!(rt; "a sitting:")?;
-    for (asked, reply) in ASKED.iter().zip(&replies) {
+    for ((asked, _), reply) in steps.iter().zip(&replies) {
         tell(rt, asked, *reply)?;
     }
     Ok(())

@@ -1,4 +1,4 @@
-// Counts the cards of a pool; nothing here judges them.
+// What a pool says of itself by number: its words, its cards, and whether they are enough; nothing here judges them.
 ghost use Rattle.std.specs.Prelude.{◌≡◌, ◌≤◌};
 ghost use Rattle.pools.specs.Pools.{Answers};
 ghost use Rattle.pools.specs.Sessions.{count, ask_held, ask_turned, up_to, number, truth};
@@ -22,7 +22,8 @@ impl<F: Field> Pool<F> {
         self.cards.iter().filter(|card| card.level <= level).count()
     }
 
-    // Whether for some level enough cards of it and the lower ones are held.
+    // Whether for some level enough cards of it and the lower ones are held. A loop and no `any`: a threshold is asked of the
+    // policy and not listed, so the levels are numbers here.
     pub fn meets_policy(&self) -> bool
         ensures { Answers F.arithmetic self.now count (truth result) }
     {

@@ -36,7 +36,7 @@ impl<F: Field> Pool<F> {
     }
 
     // The card to hold, or why it is turned away.
-    fn card(&self, level: u8, id: u32, values: &[u32]) -> Result<HeldCard, Refusal>
+    fn try_card(&self, level: u8, id: u32, values: &[u32]) -> Result<HeldCard, Refusal>
         ensures answer { refused result ≡ refuses_card (F.arithmetic self.now.field) self.now.policy self.now.words self.now.list.held (record { level = level; id = id; values = values.now }) }
         ensures card { IfOk result (λ c. c ≡ record { level = level; id = id; values = values.now }) }
     {
@@ -65,13 +65,13 @@ impl<F: Field> Pool<F> {
     }
 
     // Holds the card, or turns it away and counts that. A level, an id and values are no plainer as one value, since callers
-    // have them apart.
+    // have them apart; nor is a `?` plainer than the `match`, since a card turned away is counted on the way out.
     pub fn present(&mut self, level: u8, id: u32, values: &[u32]) -> Result<(), Refusal>
         ensures list { Steps F.arithmetic self.old (present (record { level = level; id = id; values = values.now })) self.new }
         ensures frame { Frame self.old self.new }
         ensures answer { Answers F.arithmetic self.old (present (record { level = level; id = id; values = values.now })) (answer_of (refused result)) }
     {
-        match self.card(level, id, values) {
+        match self.try_card(level, id, values) {
             Ok(card) => {
                 self.cards.push(card);
                 Ok(())

@@ -71,6 +71,7 @@ impl<F: Field> Pool<F> {
     pub fn verdict(&self) -> Judgement<Key>
         ensures { Right (F.arithmetic self.now.field) self.now.policy self.now.words self.now.list.held (verdict_of result) }
     {
+        // A decision is of any equations, and a judgement of a key: the third is read off anew.
         match self.decision() {
             Decision::Contradictory => Judgement::Contradictory,
             Decision::Open => Judgement::Open,

@@ -1,7 +1,7 @@
 use Rattle.std.proofs.Common.{take}
 use Rattle.std.specs.Fmt.{HasWritten, IsPlainFormatter}
-use Rattle.reports.specs.Report.{words_text}
-use Rattle.reports.proofs.text.JudgedDisplay.fmt.Given as goal
+use Rattle.pools.specs.Judging.{words_text}
+use Rattle.pools.proofs.judgement.JudgementKeyDisplay.fmt.Given as goal
 
 abbrev pub invariant-loop-word : goal.invariant-loop-word
 invariant-loop-word g l =
