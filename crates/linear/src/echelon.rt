@@ -28,7 +28,8 @@ impl<'a, F: Field> Echelon<'a, F> {
         }
     }
 
-    // Takes in one equation more, unless it contradicts those before.
+    // Takes in one equation more, unless it contradicts those before. The new row is stored by its column: all the others are
+    // only read.
     fn insert(&mut self, equation: &Equation) -> Result<(), Contradiction>
         ensures over { self.new.system ≡ self.old.system }
         ensures inserts { Inserts (F.arithmetic self.old.system.field.now) self.old.system.shape.unknowns self.old.system.shape.right_sides self.old.rows equation.now self.new.rows result }
@@ -60,7 +61,8 @@ impl<'a, F: Field> Echelon<'a, F> {
         Ok(echelon)
     }
 
-    // Clears the form at every column that has a row: what is left at the others tells whether its value is free.
+    // Clears the form at every column that has a row: what is left at the others tells whether its value is free. One loop for
+    // this and for `insert` would be no plainer, since a column with no row stops nothing here.
     fn decide(&self, form: &Form) -> Decision
         ensures { (equations : List Equation) → Stands (F.arithmetic self.now.system.field.now) self.now.system.shape.unknowns self.now.system.shape.right_sides equations self.now.rows → Decides (F.arithmetic self.now.system.field.now) self.now.system.shape.unknowns self.now.system.shape.right_sides equations form.now result }
     {

@@ -16,7 +16,7 @@ fn rewrite<S: Fn(usize, u32) -> u32>(numbers: &mut [u32], step: S)
 }
 
 impl<'a, F: Field> System<'a, F> {
-    // Adds the multiple of the others.
+    // Adds the multiple of the others. They are read by their place: of the writes of a `zip` the check knows nothing.
     pub(crate) fn add_multiple(&self, numbers: &mut [u32], factor: u32, others: &[u32])
         requires { length numbers.old ≤ length others.now }
         ensures { EachIndex numbers.old (λ k. slice_index numbers.new k ≡ plus (F.arithmetic self.now.field.now) factor others.now numbers.old k) }

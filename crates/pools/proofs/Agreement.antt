@@ -25,6 +25,7 @@ use Rattle.pools.specs.Verdicts.{Agreeing}
 use Rattle.pools.proofs.Equations.{derivative_dot, dot_same, last_dot}
 use Rattle.sharing.proofs.Rows.{length_row, getD_row, is_row}
 
+-- here and in Orderly: `Every` goes by recursion, so that std's lemmas on members would want a bridge at each use
 pub every_map : {A : Type 0} (P Q : A → Type 0) (xs : List A) → ((x : A) → P x → Q x) → Every P xs → Every Q xs
 every_map P Q [] f h = tt
 every_map P Q (x ∷ xs) f h = (f x h.0, every_map P Q xs f h.1)

@@ -31,6 +31,7 @@ module _ {V : Type 0} (K : Field V) where
   sum_parts d zero f = rw add-zero (sym (K.add_zero _))
   sum_parts d (suc n) f = rw add-suc (ap (λ s. add s (f (d + n))) (sum_parts d n f) ∙ add_assoc _ _ _)
 
+-- tried as `rw`, which finds no place for the step
 pub dot_same : (F : Arithmetic) (t : ℕ) (a b x y : ℕ → ℕ) → ((k : ℕ) → k < t → a k ≡ b k) → ((k : ℕ) → k < t → x k ≡ y k) → dot F t a x ≡ dot F t b y
 dot_same F zero a b x y f g = refl
 dot_same F (suc t) a b x y f g =

@@ -160,7 +160,7 @@ misfit {f} {at} {ts} so n bad s stop parts e r =
     let (others, split, left) = left_over so parts e r in
     no_policy (f ∷ []) (at_place (thresholds ts) at) others n split bad stop
 
--- what an item is where this comes next
+-- what an item is where this comes next; each wants a case for every kind of item
 is_field : {p : Part} {after : Next} (at : ℕ) (i : Item) → Follows at_field p after → as_answer i ≡ due_part p at → (f : TrayField) × (i ≡ item.Field f)
 is_field at (item.Field f) (a_field l h) e = (f, refl)
 is_field at (item.Thresholds x o) (a_field l h) e = cc

@@ -51,7 +51,7 @@ impl<F: Field> Session<F> {
         }
     }
 
-    // Presents the cards that are to come, in order, up to the end or a fault.
+    // Presents the cards that are to come, in order, up to the end or a fault. They are counted, since no list of them is there.
     pub(crate) fn present_all(&mut self, reader: &mut TrayReader, cards: u8) -> Result<(), Stop>
         requires fresh { (self.old.pool.list ≡ none_yet) × (self.old.refused.items ≡ []) }
         requires coming { CardsToCome reader.old self.old.pool.words cards }

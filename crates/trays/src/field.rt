@@ -26,7 +26,7 @@ impl TryFrom<u8> for TrayField {
 }
 
 impl TrayField {
-    // The number that a tray knows the field by.
+    // The number that a tray knows the field by: a name says more than a conversion would.
     pub fn number(self) -> u8
         ensures { result ≡ field_number self }
     {
