@@ -1,6 +1,9 @@
 -- The bytes are a field: the laws of multiplying hold at the powers of x, which the checker computes, and go on to every byte,
 -- since both sides are linear.
---   xtime_below, shifted_below, multiply_below    each is a byte
+--   low, add_below, xtime_below, shifted_below, multiply_below    each is a byte
+--   add_assoc                                     sums may be taken in any order
+--   multiply_comm, multiply_assoc, distributes    the laws of the product
+--   multiply_one, one_multiply                    one is neutral
 --   inverse_reads, inverse_none_zero              inverses read numbers by their remainders; zero has none
 --   inverse_of                                    the inverse of any other byte is its power 254
 --   byte_lawful                                   the laws

@@ -1,5 +1,6 @@
 -- A byte's product is linear in each factor: exclusive or goes through it.
 --   swap, if_set_value    exclusive or of four numbers in another order, and under `if_set`
+--   xtime_xor             exclusive or goes through multiplying by x
 --   left, right           the product is linear in its first factor and in its second
 --   Linear, at_zero       what linear means, and that zero goes to zero
 --   agree                 two linear functions that agree on the powers of x agree

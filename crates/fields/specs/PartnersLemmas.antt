@@ -1,4 +1,5 @@
 -- What the search for an inverse finds.
+--   Partner     b is below n, and its product with a is one
 --   found       what it finds is below n, and its product with a is one
 --   exists      it finds a number if there is one
 --   only        it finds p if p is one and there is no other

@@ -3,6 +3,7 @@
 --   el                  the code that a number is read as
 --   code_path, el_number, el_of, el_same    codes are equal where their numbers are
 --   field_of            the field of the codes
+--   zero_number, one_number    the numbers of zero and one
 --   el_add, el_mul, el_neg, el_zero, el_one    what is done with numbers is done with their codes
 -- Assumes nothing.
 use Rattle.std.proofs.Common.{◌≡◌, ℕ, ◌%◌, ◌<◌, sym, refl, ap, ◌∙◌, inl, inr, mod-lt, mod-eq_of_lt, arith}

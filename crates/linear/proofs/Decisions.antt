@@ -1,6 +1,7 @@
 -- From what the theory says of codes to what the statement says of numbers, and the theorems.
 --   Reads                 an assignment of codes meets a condition just if its numbers satisfy the equations
 --   no_solution, every_value, one_value    the three claims of the theory, as those of the statement
+--   decision_of, means_decides    a verdict of the theory as a decision, which claims the same
 --   decides_unique        no two decisions are right
 --   decides_order         what is right for a list is right for every list with the same equations
 --   promised              a decision that is right keeps the whole promise

@@ -1,5 +1,6 @@
 -- How a row is reduced by an echelon basis, and stored in it.
 --   agree_iff, agree_less    what rows that agree have in common
+--   clear_zero               a row with zero there is clear
 --   less_below, less_here    what clearing a column leaves before it and there
 --   reduced_start, reduced_skip, reduced_step    the columns that have a row are cleared one by one
 --   trimmed_skip, trimmed_step    every column is made zero, one by one

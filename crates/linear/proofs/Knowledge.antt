@@ -1,6 +1,7 @@
 -- What a basis knows: a list of rows, as one echelon basis.
 --   knows_nothing, knows_joined    no row, and one more
 --   knows_redundant, knows_contradiction, knows_stored    the three ways in which a row is taken in
+--   First               the first place below n where a function is not zero, and what inverts it there
 --   free_of             a column where a reduced row is not zero has no row in the basis
 --   reduce, first, put, insert, run    the elimination as a function of rows
 -- Assumes nothing.

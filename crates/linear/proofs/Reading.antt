@@ -1,10 +1,12 @@
 -- Numbers read as elements: what the contracts say of numbers is what the theory says of codes.
---   read, numbers         values of numbers as an assignment of codes, and back
+--   read, numbers, read_numbers    values of numbers as an assignment of codes, and back
+--   size_positive         a field has an element
 --   row_of, slot_of, basis_of    an equation, an optional one and the rows of an echelon, read
 --   el_rem, el_number_rem, el_is    a number and its remainder, as codes
 --   el_sum, el_dot        sums and products of numbers, read
 --   sum_below             a sum is an element
---   satisfies_to/from, solves_to/from, echelon_to/from    each relation of numbers and the same of codes
+--   reads_zero, zero_read    a number is read as zero just if its remainder is zero
+--   satisfies_to, satisfies_from, solves_to, solves_from, echelon_to, echelon_from    each relation of numbers and the same of codes
 -- Assumes nothing.
 use Rattle.std.proofs.Common.{◌≡◌, ℕ, zero, suc, ◌%◌, ◌<◌, List, get_or, Some, None, Option, sym, refl, ap, ◌∙◌, subst, mod-lt, mod-eq_of_lt, arith}
 use mathlib.Core.Path.{fun_ext}

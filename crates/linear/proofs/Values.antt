@@ -1,4 +1,9 @@
--- What the laws of a field give: rules of sums, negations, products and inverses.
+-- What the laws of a field give.
+--   zero_add, add_left_comm, interchange, add_cancel    sums
+--   neg_add, take_back, put_back, neg_unique, neg_zero, neg_neg, neg_of_add    sums and negations
+--   mul_zero, zero_mul, one_mul, mul_neg, neg_mul, add_mul    products
+--   same_of_gap, gap_of_same    two elements are one just if their difference is zero
+--   inverse_not_zero, undo    inverses
 -- Assumes nothing.
 use Rattle.std.proofs.Common.{◌≡◌, sym, ap, ◌∙◌, ap₂}
 use Rattle.linear.proofs.Fields.{Field}

@@ -6,6 +6,7 @@
 --   card_next, end_next          where cards are to come an item is one, and where none is there is no item
 --   card_first                   a card that is to come has its length, and the others come after it
 --   so_far_more                  one more is presented
+-- Assumes nothing.
 use Rattle.std.proofs.Common.{◌≡◌, ℕ, suc, ◌+◌, ◌-◌, ◌≤◌, List, [], ◌∷◌, ◌++◌, length, take, drop, replicate, Some, None, Ok, Option, sym, refl, ap, ◌∙◌, arith, Bor}
 use Rattle.std.proofs.lemmas.List.{append_assoc, length-append, map_push, take_at}
 use Rattle.fields.specs.Arithmetic.{Arithmetic}

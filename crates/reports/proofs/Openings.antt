@@ -15,6 +15,7 @@
 --   is_field, is_thresholds, is_words, is_count               what an item is where this comes next
 --   field_there, thresholds_there, words_there, count_there   that it is so of what a request gave
 --   field_read, thresholds_read, words_read, count_read       the part that it is, is read
+-- Assumes nothing.
 use Rattle.std.proofs.Common.{◌≡◌, ℕ, ◌+◌, ◌<◌, ◌≤◌, List, [], ◌∷◌, ◌++◌, length, Some, None, Ok, Err, Option, sym, refl, ap, ◌∙◌, Bor}
 use Rattle.std.proofs.lemmas.List.{append_assoc, append-nil}
 use Rattle.reports.proofs.Said.{no_part, fault_said}

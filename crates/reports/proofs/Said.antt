@@ -4,6 +4,7 @@
 --   card_is, card_due  where a card is due it is the first part
 --   card_said          so it is where a request gave a card
 --   fault_said         where it gave a fault, no part was to come, and the fault is the ending
+-- Assumes nothing.
 use Rattle.std.proofs.Common.{◌≡◌, ℕ, List, [], ◌∷◌, Some, Ok, Err, sym, refl, ap, ◌∙◌, Bor}
 use Rattle.trays.specs.declared.item.Item.{Item}
 use Rattle.trays.specs.declared.item.Item.TheVariants as item

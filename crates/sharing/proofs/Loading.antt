@@ -1,5 +1,5 @@
 -- Coefficients that fit.
---   fit        coefficients that no condition refuses: there are w × t of them, each an element
+--   Fit, fit   coefficients that no condition refuses: there are w × t of them, each an element
 -- Assumes nothing.
 use Rattle.std.proofs.Common.{◌≡◌, ℕ, ◌*◌, Bool, true, false, cond, not, eqb, leb, List, length, Some, None, Option, refl, arith}
 use Rattle.std.specs.List.{list_any}

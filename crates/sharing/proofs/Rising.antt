@@ -1,6 +1,6 @@
 -- What it says of thresholds that none is misplaced.
 --   somewhere_none, somewhere_here    a test that no number below n meets, or that one meets
---   placed, well_placed               a threshold that is not misplaced, in numbers
+--   Placed, placed, well_placed       a threshold that is not misplaced, in numbers
 --   ranged                            each threshold is from 1 to 32
 --   climbs, at_most_top               a later threshold is no smaller, so none is above the last
 --   placed_next                       one more threshold that rises above the one before

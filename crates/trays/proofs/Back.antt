@@ -1,6 +1,7 @@
 -- A sound tray reads back, and what reads to the end is one.
 --   back    the bytes of a sound tray read as its parts
 --   whole   bytes that read to the end are those of a sound tray
+-- Assumes nothing.
 use Rattle.std.proofs.Common.{◌≡◌, ℕ, suc, ◌+◌, List, [], ◌∷◌, ◌++◌, map, length, refl, ap, ◌∙◌}
 use Rattle.std.specs.List.{flat_map}
 use Rattle.trays.specs.Layout.{card, written, at_field, at_cards, card_size, a_field, some_thresholds, some_words, a_count, a_card, ended, Placed, placed, Reads, done, then, AllSized, parts_of, TrayReadsBack, WholeTrayIsSound}

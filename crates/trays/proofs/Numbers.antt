@@ -2,6 +2,7 @@
 --   length_numbers   how many they are
 --   of_chunks        they are the numbers of the bytes' chunks of four
 --   one_written      one more number, written over the first of the zeros after those of some chunks
+-- Assumes nothing.
 use Rattle.std.proofs.Common.{◌≡◌, ℕ, zero, suc, ◌+◌, ◌-◌, ◌<◌, ◌≤◌, List, [], ◌∷◌, ◌++◌, map, length, get_or, take, drop, set, replicate, sym, refl, ap, ◌∙◌, arith}
 use Rattle.std.specs.Simd.{first_chunks}
 use Rattle.std.proofs.lemmas.List.{append_assoc, length-map, length-take-le, map_more, set_at}

@@ -2,9 +2,11 @@
 --   apart        of the parts that may stand at a place, none is the beginning of another
 --   goes_on, stops, ends   what a reading is where a part stands, where something is wrong, and at the end
 --   once         from one place on there is no second reading
+--   full_thresholds   thresholds that are all there
 --   no_field, no_thresholds, few_thresholds, no_words, no_count, half_card   what is cut short
 --   one_reading  from each place on there is a reading, and no other
 --   one_way      this of a whole tray
+-- Assumes nothing.
 use Rattle.std.proofs.Common.{◌≡◌, ◌⊎◌, inl, inr, ℕ, zero, suc, ◌+◌, ◌-◌, ◌<◌, ◌≤◌, List, [], ◌∷◌, ◌++◌, length, take, drop, replicate, sym, refl, ap, ◌∙◌, subst, arith}
 use native.Mathlib.Decide.{dec_le}
 use Rattle.std.proofs.lemmas.List.{append-nil, append_assoc, length-append, length-replicate, length-take-le, take_at, drop_at, take-append-drop}

@@ -1,6 +1,7 @@
 -- One reading from where a reader stands, and requests one after the other.
 --   reader_one_way   there is one reading of what is to come, and no other
 --   in_order         each request says what is due at its turn
+-- Assumes nothing.
 use Rattle.std.proofs.Common.{◌≡◌, ℕ, zero, suc, List, [], ◌∷◌, drop, refl, subst}
 use Rattle.trays.specs.declared.reader.Stage.{Stage}
 use Rattle.trays.specs.declared.reader.Stage.TheVariants as stage

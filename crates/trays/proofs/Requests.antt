@@ -11,6 +11,7 @@
 --   field_follows, card_follows   a field, or a card, may stand where one is to come
 --   no_card      a card is to come, and fewer bytes are left
 --   words_refused, words_taken    which numbers of words are refused, and by which number, and which are not
+-- Assumes nothing.
 use Rattle.std.proofs.Common.{◌≡◌, ℕ, zero, suc, ◌+◌, ◌-◌, ◌<◌, ◌≤◌, List, [], ◌∷◌, ◌++◌, length, get_or, take, drop, Ok, Err, Some, None, Option, Result, sym, refl, ap, ◌∙◌, subst, arith}
 use native.Mathlib.Numerals.{unary_clauses}
 use Rattle.std.proofs.lemmas.Bool.Decides.{nat_tests}
