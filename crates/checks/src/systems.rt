@@ -3,6 +3,7 @@ use fields::prime::WIDE_FIELD;
 use linear::decide::{Decision, decide};
 use linear::equation::{Equation, Form};
 use linear::shape::Shape;
+use std::array;
 use std::test::Fail;
 
 // a x + b y + c z = s
@@ -75,27 +76,17 @@ fn the_order_of_equations_does_not_matter(rt: HostRuntime) {
     );
 }
 
-// Writes a number, and then each by the same step above the one before.
-fn fill(numbers: &mut [u32], start: u32, step: u32) {
-    let mut next = start;
-    for number in numbers.iter_mut() {
-        *number = next;
-        next = next.saturating_add(step);
-    }
+// The value of unknown i on right side j is i + j.
+fn side(unknown: usize, j: usize) -> u32 {
+    (unknown % 32 + j % 16) as u32
 }
 
-// The right sides of unknown i alone are i + j; those of it and its neighbour are the sums.
+// The right sides of an unknown alone; those of it and its neighbour are the sums.
 fn sides(place: usize, together: bool) -> [u32; 16] {
-    let mut right_sides = [0; 16];
-    let alone = (place % 32) as u32;
-    let start = if together {
-        alone + (alone + 1) % 32
-    } else {
-        alone
-    };
-    let step = if together { 2 } else { 1 };
-    fill(&mut right_sides, start, step);
-    right_sides
+    array::from_fn(|j| {
+        let neighbour = if together { side(place % 32 + 1, j) } else { 0 };
+        side(place, j).saturating_add(neighbour)
+    })
 }
 
 fn large(place: usize, together: bool) -> Equation {
@@ -108,17 +99,10 @@ fn large(place: usize, together: bool) -> Equation {
     }
 }
 
-fn fill_equations(equations: &mut [Equation]) {
-    for (i, equation) in equations.iter_mut().enumerate() {
-        *equation = large(i / 2, i % 2 == 0);
-    }
-}
-
 // 64 equations in 32 unknowns with 16 right sides.
 #[test]
 fn the_largest_shape(rt: HostRuntime) -> Result<(), Fail> {
-    let mut equations = [large(0, false); 64];
-    fill_equations(&mut equations);
+    let equations: [Equation; 64] = array::from_fn(|i| large(i / 2, i % 2 == 0));
     let shape = Shape::new(32, 16).ok_or("the largest shape")?;
     let mut asked = Form::default();
     asked.coefficients[31] = 1;

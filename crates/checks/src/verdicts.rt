@@ -113,7 +113,7 @@ fn a_session_in_the_byte_field(rt: HostRuntime) -> Result<(), Fail> {
     Ok(())
 }
 
-// A card of one word.
+// A card of one word, with its value in the table's line: the others hold as many as their policy asks for.
 #[derive(Clone, Copy)]
 struct TestCard {
     level: u8,

@@ -40,6 +40,7 @@ impl Field for ByteField {
         let bits = b % 256;
         let mut shifted = a % 256;
         let mut product = 0;
+        // No plainer without the place: the bits of a number are no list.
         for i in 0u32..8 {
             if (bits >> i) % 2 == 1 {
                 product ^= shifted;

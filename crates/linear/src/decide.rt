@@ -8,14 +8,14 @@ use crate::system::System;
 use fields::Field;
 
 // What equations tell of a form. A pool says the same three things of a key; one type for both would be no plainer, since
-// each has its own word for the third and holds something else there.
+// equations know no key: each has its own word for the third and holds something else there.
 #[derive(Clone, Copy, PartialEq, Eq, Debug)]
 pub enum Decision {
     // No elements solve the equations.
     Contradictory,
     // Every value of the form is possible.
     Open,
-    // Every solution gives the form these values, one for each right side; 0 past them.
+    // Every solution gives the form these values, one for each right side; 0 past them, in fixed memory.
     Decided([u32; MOST_RIGHT_SIDES]),
 }
 

@@ -82,6 +82,7 @@ impl<'a, F: Field> System<'a, F> {
     pub(crate) fn eliminate(&self, equations: &[Equation], form: &Form) -> Decision
         ensures { Promise (F.arithmetic self.now.field.now) self.now.shape.unknowns self.now.shape.right_sides equations.now form.now result }
     {
+        // Tried, and the proof did not close: `map_or` with a closure that decides.
         let Ok(echelon) = Echelon::of(*self, equations) else {
             return Decision::Contradictory;
         };

@@ -1,6 +1,6 @@
 // Linear equations and linear forms. Every number is read as the element that it stands for, its remainder by the
-// field's size; the places past the shape are not looked at. They are arrays with room for the most, so that no call can want
-// for memory.
+// field's size; the places past the shape are not looked at. They are arrays in fixed memory with room for the most, and the
+// shape stands once for all of them.
 ghost use Rattle.std.specs.Prelude.{◌≡◌, length, replicate};
 
 // How many unknowns and right sides there is room for.

@@ -20,6 +20,7 @@ pub(crate) struct System<'a, F> {
 pub(crate) struct Contradiction;
 
 impl<'a, F: Field> System<'a, F> {
+    // As an index, here and below; the numbers of a shape are bytes, as a policy's are.
     pub(crate) fn unknowns(&self) -> usize
         ensures { result ≡ self.now.shape.unknowns }
     {

@@ -23,6 +23,7 @@ none_of : {A : Type 0} (p : A → Bool) (xs : List A) → list_any p xs ≡ fals
 none_of p [] e = tt
 none_of p (x ∷ xs) e = let parts = or_parts (p x) (list_any p xs) e in (parts.0, none_of p xs parts.1)
 
+-- here and below: `Every` goes by recursion, as in Agreement
 every_push : {A : Type 0} (P : A → Type 0) (xs : List A) (y : A) → Every P xs → P y → Every P (xs ++ y ∷ [])
 every_push P [] y h p = (p, tt)
 every_push P (x ∷ xs) y h p = (h.0, every_push P xs y h.1 p)

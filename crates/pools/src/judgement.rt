@@ -15,7 +15,7 @@ pub enum Judgement<K> {
     Key(K),
 }
 
-// The verdict in words; those of a key stand each after a space.
+// The verdict in words; those of a key stand each after a space. By hand, as the lines of a report are: no derive writes them.
 impl fmt::Display for Judgement<Key> {
     ghost output = { λ j. Some (verdict_text j) };
 

@@ -4,8 +4,8 @@ ghost use Rattle.std.specs.Prelude.{◌≡◌};
 use sharing::words::{MOST_WORDS, WordCount};
 use std::marker::Model;
 
-// The first `count` places hold the words, and zeros follow: an array in fixed memory, since an `ArrayVec` is no `Copy`. A policy keeps its
-// thresholds alike, but of another type and under another rule, so that one type for both would be no plainer.
+// The first `count` places hold the words, and zeros follow: an array in fixed memory, since an `ArrayVec` is no `Copy`. A
+// policy keeps its thresholds alike, but of another type and under another rule, so that one type for both would be no plainer.
 #[derive(Clone, Copy, PartialEq, Eq, Debug)]
 pub struct Key {
     pub(crate) words: [u32; MOST_WORDS],

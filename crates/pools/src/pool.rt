@@ -24,7 +24,8 @@ pub struct Pool<F: Field> {
     turned: u16,
 }
 
-// Clauses see a pool by its field, its policy, its number of words and its card list.
+// Clauses see a pool by its field, its policy, its number of words and its card list. Statements about cards name the
+// arithmetic, the policy and the number of words apart, since they know no pool.
 impl<F: Field> Model for Pool<F> {
     ghost use Rattle.pools.specs.Pools.{Seen};
     ghost use Rattle.pools.specs.Sessions.{Orderly};

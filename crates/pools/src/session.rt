@@ -12,6 +12,7 @@ use sharing::policy::Policy;
 use sharing::refusal::Refusal;
 use sharing::words::WordCount;
 
+// A request is a value that can be listed and copied; a closure in its place could be neither.
 #[derive(Clone, Copy)]
 pub enum Request<'a> {
     Present {
@@ -40,7 +41,8 @@ pub enum Reply {
     Judged(Judgement<Key>),
 }
 
-// Judges for a key buffer of this length.
+// Judges for a key buffer of this length. No plainer by `Pool::judge`, which writes the key into a buffer: a request has only
+// the length.
 fn judged<F: Field>(pool: &Pool<F>, key_length: usize) -> Result<Reply, Refusal>
     ensures { Answers F.arithmetic pool.now (judge key_length) (replied result) }
 {
@@ -50,7 +52,7 @@ fn judged<F: Field>(pool: &Pool<F>, key_length: usize) -> Result<Reply, Refusal>
     Ok(Reply::Judged(pool.verdict()))
 }
 
-// Makes one request. A request is a value that can be listed and copied; a closure in its place could be neither.
+// Makes one request.
 fn one<F: Field>(pool: &mut Pool<F>, request: Request) -> Result<Reply, Refusal>
     ensures list { Steps F.arithmetic pool.old (called request.entry) pool.new }
     ensures frame { Frame pool.old pool.new }
@@ -73,7 +75,8 @@ fn one<F: Field>(pool: &mut Pool<F>, request: Request) -> Result<Reply, Refusal>
 }
 
 // Makes the requests of a new pool in their order, as many as there is room for replies, and writes the reply to each, or
-// why the request is refused; the places after them stay as they were.
+// why the request is refused; the places after them stay as they were. Two lists, in fixed memory: the caller lends the room
+// for the replies.
 pub fn run_session<F: Field + Drop>(
     field: F,
     policy: Policy,

@@ -18,7 +18,8 @@ pub struct Header {
     pub cards: u8,
 }
 
-// A card that the pool turned away: which of the tray's cards it is, counted from 1, and where it stands.
+// A card that the pool turned away: which of the tray's cards it is, counted from 1, and where it stands. No plainer around a
+// fault, which ends a tray.
 #[derive(Clone, Copy)]
 pub struct RefusedCard {
     pub ordinal: u8,
@@ -49,7 +50,7 @@ pub enum Layer {
     Policy,
 }
 
-// Why a run stopped before its end.
+// Why a run stopped before its end. No plainer around a reader's fault: a policy stops a run too.
 #[derive(Clone, Copy)]
 pub struct Stop {
     pub refusal: Refusal,

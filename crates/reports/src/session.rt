@@ -51,6 +51,9 @@ impl<F: Field> Session<F> {
         }
     }
 
+    // What is said of the cards that are to come stands here, in `run` and in `run_cards`, each time of another state: a definition
+    // would take all of that state's parts.
+    //
     // Presents the cards that are to come, in order, up to the end or a fault. They are counted, since no list of them is there.
     pub(crate) fn present_all(&mut self, reader: &mut TrayReader, cards: u8) -> Result<(), Stop>
         requires fresh { (self.old.pool.list ≡ none_yet) × (self.old.refused.items ≡ []) }

@@ -1,4 +1,4 @@
-// The text of a report.
+// The text of a report. Each part writes its own line, which no derive would.
 ghost use Rattle.std.specs.Prelude.{◌≡◌, ◌++◌, IfOk, Some, string_bytes};
 ghost use Rattle.reports.specs.Report.{counts_line, fault_line, header_line, layer_name, refused_line, report_text, verdict_line};
 

@@ -59,7 +59,8 @@ impl OpenedDealing {
 }
 
 impl LoadedDealing<'_> {
-    // Writes the values of the card with this level and id.
+    // Writes the values of the card with this level and id. Callers have the two apart, here and in `multipliers`, so one value
+    // of both would be no plainer.
     pub fn issue<F: Field>(
         &self,
         field: &F,

@@ -21,7 +21,8 @@ pub(crate) struct Derivative {
 }
 
 impl Derivative {
-    // The derivative on a card. A level that the policy has not would have the highest order.
+    // The derivative on a card. A level that the policy has not would have the highest order: an answer for every level is
+    // plainer than an option, which `issue` has no use for.
     pub(crate) fn on_card(policy: &Policy, level: u8, id: u32) -> Derivative
         ensures { (result.top ≡ top policy.now) × ((result.order ≡ order policy.now level) × (result.id ≡ id)) }
     {

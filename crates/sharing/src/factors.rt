@@ -35,7 +35,7 @@ impl<'a, F: Field> Factors<'a, F> {
         ensures { result ≡ falling (F.arithmetic self.now.field.now) i order }
     {
         let mut product = 1;
-        // No plainer over the elements from i − order + 1 to i, backwards.
+        // No plainer over the elements: it would be those from i − order + 1 to i, backwards, where the place says so itself.
         for k in 0..order {
             product = self.field.multiply(product, self.elements[i - k]);
         }

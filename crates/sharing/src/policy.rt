@@ -11,7 +11,8 @@ const MOST_LEVELS: usize = 8;
 const LARGEST_THRESHOLD: u8 = 32;
 
 // A policy: one to eight levels, counted from 0, with a threshold each, from 1 to 32 and each above the one before it. The
-// first `count` places hold them, and zeros follow: an array in fixed memory, since an `ArrayVec` is no `Copy`.
+// first `count` places hold them, and zeros follow: an array in fixed memory, since an `ArrayVec` is no `Copy`. A key keeps
+// its words alike, but one type for both would be no plainer: it is of another type and under another rule.
 #[derive(Clone, Copy)]
 pub struct Policy {
     thresholds: [u8; MOST_LEVELS],
@@ -47,6 +48,7 @@ impl Policy {
         if levels.is_empty() || levels.len() > MOST_LEVELS {
             return Err(Refusal::WrongLevelCount);
         }
+        // No plainer by `is_sorted_by`: the first is held against 0, and each against the largest too.
         let mut last = 0;
         for threshold in levels {
             if *threshold <= last || *threshold > LARGEST_THRESHOLD {

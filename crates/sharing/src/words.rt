@@ -36,6 +36,7 @@ impl WordCount {
         Ok(WordCount { words })
     }
 
+    // A byte, as trays have it; what asks for an index says so.
     pub fn get(&self) -> u8
         ensures words { result ≡ self.now }
         ensures range { (1 ≤ result) × (result ≤ 16) }

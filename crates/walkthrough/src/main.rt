@@ -22,11 +22,23 @@ const COEFFICIENTS: usize = 40;
 // ids are given as people join, from 1 on
 const PEOPLE: usize = 31;
 
+// A card as it is dealt here, with the two words of this drive: the engine's own cards are of a tray, or held in a pool.
 #[derive(Clone, Copy, Default)]
 struct IssuedCard {
     level: u8,
     id: u32,
     values: [u32; WORDS],
+}
+
+impl IssuedCard {
+    // The request that presents the card.
+    fn present(&self) -> Request<'_> {
+        Request::Present {
+            level: self.level,
+            id: self.id,
+            values: &self.values,
+        }
+    }
 }
 
 // Five directors, eight managers, and staff.
@@ -90,18 +102,6 @@ fn deal(
     Ok(())
 }
 
-// The request that presents the card of this id.
-fn presenting(cards: &[IssuedCard; PEOPLE], id: usize) -> Request<'_> {
-    let Some(card) = cards.get(id.wrapping_sub(1)) else {
-        return Request::Held;
-    };
-    Request::Present {
-        level: card.level,
-        id: card.id,
-        values: &card.values,
-    }
-}
-
 fn tell(rt: &HostRuntime, asked: &str, reply: Result<Reply, Refusal>) -> anyhow::Result<()> {
     print!(rt; "  {asked}: ")?;
     match reply {
@@ -129,27 +129,27 @@ fn script<'a>(cards: &'a [IssuedCard; PEOPLE], false_values: &'a [u32]) -> [Step
         values: false_values,
     };
     [
-        ("director 1", presenting(cards, 1)),
-        ("director 8", presenting(cards, 8)),
+        ("director 1", cards[0].present()),
+        ("director 8", cards[7].present()),
         ("are these enough by their number", Request::MeetsPolicy),
         ("the key", judge),
-        ("manager 2", presenting(cards, 2)),
-        ("manager 3", presenting(cards, 3)),
-        ("manager 5", presenting(cards, 5)),
-        ("manager 7", presenting(cards, 7)),
-        ("manager 9", presenting(cards, 9)),
-        ("manager 11", presenting(cards, 11)),
-        ("manager 12", presenting(cards, 12)),
-        ("manager 13", presenting(cards, 13)),
+        ("manager 2", cards[1].present()),
+        ("manager 3", cards[2].present()),
+        ("manager 5", cards[4].present()),
+        ("manager 7", cards[6].present()),
+        ("manager 9", cards[8].present()),
+        ("manager 11", cards[10].present()),
+        ("manager 12", cards[11].present()),
+        ("manager 13", cards[12].present()),
         ("are these enough by their number", Request::MeetsPolicy),
         ("the key", judge),
-        ("director 4", presenting(cards, 4)),
+        ("director 4", cards[3].present()),
         ("the key", judge),
         ("director 6, with a false value", false_card),
         ("the key", judge),
         ("withdraw card 6", Request::Withdraw { id: 6 }),
         ("the key", judge),
-        ("director 1 once more", presenting(cards, 1)),
+        ("director 1 once more", cards[0].present()),
         ("cards held", Request::Held),
         ("cards turned away", Request::TurnedAway),
     ]

@@ -35,7 +35,8 @@ impl<F: Field> Pool<F> {
         self.cards.iter().any(|card| card.id == id)
     }
 
-    // The card to hold, or why it is turned away.
+    // The card to hold, or why it is turned away. A dealing's `issue` tests length, id and level alike: no plainer as one
+    // function, which would take all that they test.
     fn try_card(&self, level: u8, id: u32, values: &[u32]) -> Result<HeldCard, Refusal>
         ensures answer { refused result ≡ refuses_card (F.arithmetic self.now.field) self.now.policy self.now.words self.now.list.held (record { level = level; id = id; values = values.now }) }
         ensures card { IfOk result (λ c. c ≡ record { level = level; id = id; values = values.now }) }
