@@ -1,5 +1,5 @@
 // A key.
-ghost use Rattle.std.specs.Prelude.{◌≡◌};
+ghost use Rattle.std.specs.Prelude.{◌≡◌, ◌≤◌, length};
 
 use sharing::words::{MOST_WORDS, WordCount};
 use std::marker::Model;
@@ -34,7 +34,8 @@ impl Model for Key {
 impl Key {
     // The words, in order.
     pub fn as_slice(&self) -> &[u32]
-        ensures { result.now ≡ self.now }
+        ensures words { result.now ≡ self.now }
+        ensures few { (1 ≤ length result.now) × (length result.now ≤ 16) }
     {
         &self.words[..self.count.get() as usize]
     }

@@ -14,7 +14,6 @@ use Rattle.std.specs.List.{flat_map}
 use Rattle.sharing.specs.Refusals.{number}
 use Rattle.pools.specs.declared.judgement.Judgement.{Judgement}
 use Rattle.pools.specs.Judging.{verdict_text}
-use Rattle.trays.specs.Fields.{field_number}
 use Rattle.reports.specs.declared.report.Header.{Header}
 use Rattle.reports.specs.declared.report.Judged.{Judged}
 use Rattle.reports.specs.declared.report.Layer.{Layer}
@@ -28,7 +27,7 @@ newline = 10 ∷ []
 
 abbrev pub header_line : Header → List ℕ
 header_line h =
-    codes "field " ++ (decimal (field_number h.field) ++ (codes " levels " ++ (decimal h.levels ++ (codes " words " ++ (decimal h.words ++ (codes " cards " ++ (decimal h.cards ++ newline)))))))
+    codes "field " ++ (decimal h.field ++ (codes " levels " ++ (decimal h.levels ++ (codes " words " ++ (decimal h.words ++ (codes " cards " ++ (decimal h.cards ++ newline)))))))
 
 abbrev pub refused_line : RefusedCard → List ℕ
 refused_line c =

@@ -103,7 +103,7 @@ opening b ts w n = placed 0 (field b ∷ thresholds ts ∷ words w ∷ card_coun
 pub data Reports (parts : List Placed) (e : Ending) (r : TrayReport) : Type 0 where
   stopped_early : (s : Stop) → StopsEarly parts e s → r.header ≡ None → turned_by r.refused.items ≡ [] → r.conclusion ≡ Err s → Reports parts e r
   opened : (f : TrayField) (ts : List ℕ) (w n : ℕ) (cards : List Placed) → parts ≡ opening (field_number f) ts w n ++ cards → refuses_policy ts ≡ None
-      → r.header ≡ Some (record { field = f; levels = length ts; words = w; cards = n })
+      → r.header ≡ Some (record { field = field_number f; levels = length ts; words = w; cards = n })
       → turned_by r.refused.items ≡ turned_from (arithmetic_of f) ts w [] cards
       → Concludes (arithmetic_of f) ts w cards e r.conclusion
       → Reports parts e r

@@ -6,15 +6,14 @@ use arrayvec::ArrayVec;
 use pools::judgement::Judgement;
 use pools::key::Key;
 use sharing::refusal::Refusal;
-use sharing::words::WordCount;
-use trays::field::TrayField;
 
-// What a tray says before its cards, as a report tells it: the policy is told by its number of levels.
+// What a tray says before its cards, as a report tells it: each part by a byte, the policy by its number of levels. Anybody may
+// make a header and print it, so it asks no field or number of words that a tray could have.
 #[derive(Clone, Copy)]
 pub struct Header {
-    pub field: TrayField,
+    pub field: u8,
     pub levels: u8,
-    pub words: WordCount,
+    pub words: u8,
     pub cards: u8,
 }
 

@@ -1,6 +1,7 @@
 // Runs a whole tray.
 ghost use Rattle.std.specs.Prelude.{◌≡◌, List, [], length, Some};
 ghost use Rattle.trays.specs.Answers.{Reading};
+ghost use Rattle.trays.specs.Fields.{field_number};
 ghost use Rattle.trays.specs.Layout.{Placed, Ending, at_field, Reads};
 ghost use Rattle.reports.specs.Runs.{Concludes, Reports, turned_by, turned_from};
 ghost use Rattle.reports.specs.Steps.{CardsToCome};
@@ -19,16 +20,16 @@ use trays::reader::TrayReader;
 // Runs the cards of a tray over a field.
 fn run_cards<F: Field + Drop>(field: F, opening: Opening, reader: &mut TrayReader) -> TrayReport
     requires { CardsToCome reader.old opening.words opening.cards }
-    ensures header { result.header ≡ Some (record { field = opening.field; levels = length opening.policy; words = opening.words; cards = opening.cards }) }
+    ensures header { result.header ≡ Some (record { field = field_number opening.field; levels = length opening.policy; words = opening.words; cards = opening.cards }) }
     ensures refusals { (ps : List Placed) (e : Ending) → Reading reader.old ps e → turned_by result.refused.items ≡ turned_from (F.arithmetic field) opening.policy opening.words [] ps }
     ensures concludes { (ps : List Placed) (e : Ending) → Reading reader.old ps e → Concludes (F.arithmetic field) opening.policy opening.words ps e result.conclusion }
 {
     let policy = opening.policy;
     let words = opening.words;
     let header = Header {
-        field: opening.field,
+        field: opening.field.number(),
         levels: policy.levels(),
-        words,
+        words: words.get(),
         cards: opening.cards,
     };
     let mut session = Session {

@@ -13,10 +13,7 @@ impl fmt::Display for Header {
         write!(
             f,
             "field {} levels {} words {} cards {}\n",
-            self.field.number(),
-            self.levels,
-            self.words.get(),
-            self.cards
+            self.field, self.levels, self.words, self.cards
         )
     }
 }

@@ -1,9 +1,9 @@
 // Dealing the cards of a drive. A dealing is opened with a policy and a number of words, loaded with coefficients, issues
 // cards, and is ended; each state is a type of its own, so a program that takes them in another order is not compiled.
-ghost use Rattle.std.specs.Prelude.{◌≡◌, length, replicate, MatchResult};
+ghost use Rattle.std.specs.Prelude.{◌≡◌, ◌≤◌, false, length, replicate, MatchResult};
 ghost use Rattle.sharing.specs.Cards.{values_of};
 ghost use Rattle.sharing.specs.Dealings.{coefficients_of};
-ghost use Rattle.sharing.specs.Refusals.{refused, refuses_loading, refuses_issue};
+ghost use Rattle.sharing.specs.Refusals.{disordered, refused, refuses_loading, refuses_issue};
 
 use crate::derivative::Derivative;
 use crate::elements::any_outside;
@@ -36,7 +36,9 @@ impl OpenedDealing {
     // Whether the coefficients are fit to be loaded: as many as the policy and the words ask for, and each an element of
     // the field.
     pub fn trial<F: Field>(&self, field: &F, coefficients: &[u32]) -> Result<(), Refusal>
-        ensures { refused result ≡ refuses_loading (F.arithmetic field.now) self.now.policy self.now.words coefficients.now }
+        ensures answer { refused result ≡ refuses_loading (F.arithmetic field.now) self.now.policy self.now.words coefficients.now }
+        ensures range { (1 ≤ self.now.words) × (self.now.words ≤ 16) }
+        ensures ordered { disordered self.now.policy ≡ false }
     {
         if coefficients.len() != self.words.get() as usize * self.policy.top() as usize {
             return Err(Refusal::WrongCoefficientCount);
@@ -70,6 +72,8 @@ impl LoadedDealing<'_> {
     ) -> Result<(), Refusal>
         ensures answer { refused result ≡ refuses_issue (F.arithmetic field.now) self.now.opened.policy self.now.opened.words (coefficients_of self.now) level id (length values.old) }
         ensures values { MatchResult result (λ _. values.new ≡ values_of (F.arithmetic field.now) self.now.opened.policy self.now.opened.words (coefficients_of self.now) level id) (λ _. values.new ≡ values.old) }
+        ensures range { (1 ≤ self.now.opened.words) × (self.now.opened.words ≤ 16) }
+        ensures ordered { disordered self.now.opened.policy ≡ false }
     {
         let loaded: &[u32] = self.coefficients;
         self.opened.trial(field, loaded)?;

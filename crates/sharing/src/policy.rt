@@ -76,6 +76,7 @@ impl Policy {
     pub fn levels(&self) -> u8
         ensures count { result ≡ length self.now }
         ensures range { (1 ≤ result) × (result ≤ 8) }
+        ensures ordered { disordered self.now ≡ false }
     {
         self.count
     }
@@ -92,6 +93,7 @@ impl Policy {
     pub fn top(&self) -> u8
         ensures last { result ≡ top self.now }
         ensures range { (1 ≤ result) × (result ≤ 32) }
+        ensures ordered { disordered self.now ≡ false }
     {
         self.thresholds[self.count as usize - 1]
     }

@@ -183,10 +183,11 @@ fn three_directors(
     for card in [&cards[5], &cards[7], &cards[9]] {
         pool.present(card.level, card.id, &card.values)?;
     }
-    let Judgement::Key(key) = pool.verdict() else {
-        return Ok(false);
-    };
-    Ok(key.as_slice() == dealt.as_slice())
+    let mut key = [0; WORDS];
+    match pool.judge(&mut key)? {
+        Judgement::Key(()) => Ok(key == dealt),
+        Judgement::Open | Judgement::Contradictory => Ok(false),
+    }
 }
 
 fn run(rt: &HostRuntime) -> anyhow::Result<()> {

@@ -1,5 +1,6 @@
 // What a pool says of itself by number: its words, its cards, and whether they are enough; nothing here judges them.
-ghost use Rattle.std.specs.Prelude.{◌≡◌, ◌≤◌};
+ghost use Rattle.std.specs.Prelude.{◌≡◌, ◌≤◌, false};
+ghost use Rattle.sharing.specs.Refusals.{disordered};
 ghost use Rattle.pools.specs.Pools.{Answers};
 ghost use Rattle.pools.specs.Sessions.{count, ask_held, ask_turned, up_to, number, truth};
 
@@ -19,13 +20,20 @@ impl<F: Field> Pool<F> {
     fn up_to(&self, level: u8) -> usize
         ensures { result ≡ up_to (F.arithmetic self.now.field) self.now.policy self.now.words level self.now.list.held }
     {
-        self.cards.iter().filter(|card| card.level <= level).count()
+        let mut cards = 0;
+        for card in self.cards.as_slice() {
+            if card.level <= level {
+                cards += 1;
+            }
+        }
+        cards
     }
 
     // Whether for some level enough cards of it and the lower ones are held. A loop and no `any`: a threshold is asked of the
     // policy and not listed, so the levels are numbers here.
     pub fn meets_policy(&self) -> bool
-        ensures { Answers F.arithmetic self.now count (truth result) }
+        ensures answer { Answers F.arithmetic self.now count (truth result) }
+        ensures ordered { disordered self.now.policy ≡ false }
     {
         for level in 0..self.policy.levels() {
             let Some(threshold) = self.policy.threshold(level) else {

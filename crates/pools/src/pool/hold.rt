@@ -1,5 +1,6 @@
 // Makes pools, and presents and withdraws cards.
-ghost use Rattle.std.specs.Prelude.{◌≡◌, IfOk};
+ghost use Rattle.std.specs.Prelude.{◌≡◌, ◌==◌, IfOk};
+ghost use Rattle.std.specs.List.{position};
 ghost use Rattle.pools.specs.Pools.{Frame, Steps, Answers};
 ghost use Rattle.sharing.specs.Refusals.{refused};
 ghost use Rattle.pools.specs.Sessions.{none_yet, present, withdraw, holds, refuses_card, answer_of};
@@ -84,16 +85,23 @@ impl<F: Field> Pool<F> {
         }
     }
 
-    // Takes the card with this id out.
+    // Where the card with this id stands.
+    fn place_of(&self, id: u32) -> Option<usize>
+        ensures { result ≡ position (λ h. h.id == id) self.now.list.held }
+    {
+        self.cards.iter().position(|card| card.id == id)
+    }
+
+    // Takes the card with this id out. There is one at most, so that the search ends where it stands.
     pub fn withdraw(&mut self, id: u32) -> Result<(), Refusal>
         ensures list { Steps F.arithmetic self.old (withdraw id) self.new }
         ensures frame { Frame self.old self.new }
         ensures answer { Answers F.arithmetic self.old (withdraw id) (answer_of (refused result)) }
     {
-        if !self.holds(id) {
+        let Some(place) = self.place_of(id) else {
             return Err(Refusal::IdNotHeld);
-        }
-        self.cards.retain(|card| card.id != id);
+        };
+        self.cards.remove(place);
         Ok(())
     }
 }

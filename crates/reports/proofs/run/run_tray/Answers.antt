@@ -1,4 +1,5 @@
 use Rattle.std.proofs.Common.{◌≡◌, List, [], length, Some, refl, ap}
+use Rattle.trays.specs.Fields.{field_number}
 use Rattle.trays.specs.Layout.{Placed, Ending}
 use Rattle.trays.specs.declared.field.TrayField.{TrayField}
 use Rattle.trays.specs.declared.reader.TrayReader.{TrayReader}
@@ -10,7 +11,7 @@ use Rattle.reports.proofs.run.run_tray.Goals as goal
 
 -- a run over the field that the tray names
 ran : {o : Opening} {t : TrayReader} {parts cards : List Placed} {e : Ending} {f : TrayField} {r : TrayReport} → o.field ≡ f → OpensAs o t parts e cards
-    → r.header ≡ Some (record { field = o.field; levels = length o.policy; words = o.words; cards = o.cards })
+    → r.header ≡ Some (record { field = field_number o.field; levels = length o.policy; words = o.words; cards = o.cards })
     → turned_by r.refused.items ≡ turned_from (arithmetic_of f) o.policy o.words [] cards
     → Concludes (arithmetic_of f) o.policy o.words cards e r.conclusion → Reports parts e r
 ran {o} {cards} is found header refusals concludes =

@@ -22,7 +22,7 @@ returns g c =
     let ts = c.args.self.now.opened.policy in
     let w = c.args.self.now.opened.words in
     let x = coefficients_of c.args.self.now in
-    let loaded = fit F ts w x c.in_ok-trial.ensures in
+    let loaded = fit F ts w x c.in_ok-trial.ensures.answer in
     let many : length c.args.values.now ≡ w = c.if-values-get.false ∙ c.get.ensures.words in
     let buffer : not (eqb (length c.args.values.now) w) ≡ false = ap not (eq-eqb _ w many) in
     let id : (eqb c.args.id 0 || leb F.size c.args.id) ≡ false =
@@ -31,4 +31,4 @@ returns g c =
     let derivative = c.on_card-derivative.ensures in
     let long = loaded.long in
     let elements = loaded.elements in
-    record { answer = rw (long, elements, buffer, id, level); values = c.write_values.ensures ∙ same_values F x _ c.args.id _ w _ (top ts) _ (order ts c.args.level) many derivative.0 derivative.1.0 derivative.1.1 }
+    record { answer = rw (long, elements, buffer, id, level); values = c.write_values.ensures ∙ same_values F x _ c.args.id _ w _ (top ts) _ (order ts c.args.level) many derivative.0 derivative.1.0 derivative.1.1; range = c.trial.ensures.range; ordered = c.trial.ensures.ordered }
