@@ -12,7 +12,8 @@ use std::io::Read;
 // same: by then the run has its card count and its cards and knows of a byte after them, or it stopped before.
 const MOST_BYTES: usize = 17_608;
 
-// Fills the buffer with what the input has, and tells how much that is.
+// Fills the buffer with what the input has, and tells how much that is. A loop over a buffer of the whole size: `read_to_end`
+// asks for 512 bytes first, and an input that keeps the bounds of messages drops what a read does not take.
 fn read_into<R: Read>(input: &mut R, buffer: &mut [u8]) -> io::Result<usize>
     ensures { IfOk result (λ n. n ≤ length buffer.old) }
 {

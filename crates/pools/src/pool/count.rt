@@ -2,7 +2,7 @@
 ghost use Rattle.std.specs.Prelude.{◌≡◌, ◌≤◌, false};
 ghost use Rattle.sharing.specs.Refusals.{disordered};
 ghost use Rattle.pools.specs.Pools.{Answers};
-ghost use Rattle.pools.specs.Sessions.{count, ask_held, ask_turned, up_to, number, truth};
+ghost use Rattle.pools.specs.Sessions.{Orderly, count, ask_held, ask_turned, up_to, number, truth};
 
 use super::Pool;
 use fields::Field;
@@ -50,6 +50,7 @@ impl<F: Field> Pool<F> {
     pub fn held(&self) -> usize
         ensures answer { Answers F.arithmetic self.now ask_held (number result) }
         ensures range { result ≤ 64 }
+        ensures orderly { Orderly (F.arithmetic self.now.field) self.now.policy self.now.words self.now.list }
     {
         self.cards.len()
     }

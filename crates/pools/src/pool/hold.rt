@@ -92,7 +92,8 @@ impl<F: Field> Pool<F> {
         self.cards.iter().position(|card| card.id == id)
     }
 
-    // Takes the card with this id out. There is one at most, so that the search ends where it stands.
+    // Takes the card with this id out. There is one at most, so that the search ends where it stands. No plainer by `ok_or`
+    // and `?`, whose proof would speak of the way out too.
     pub fn withdraw(&mut self, id: u32) -> Result<(), Refusal>
         ensures list { Steps F.arithmetic self.old (withdraw id) self.new }
         ensures frame { Frame self.old self.new }
